@@ -1,0 +1,3 @@
+pub mod Counter
+pub mod Hold
+pub mod ClosedForm

@@ -1,0 +1,57 @@
+-- The laws of `any` and `anyTwo`: one turn of a loop over the rest of a list and its end, and what a failed search tells of each place.
+-- Assumes nothing.
+use mathlib.Core.Path.{_≡_, refl, sym, _∙_, ap}
+use mathlib.Core.Bool.{Bool, true, false, _||_}
+use mathlib.Core.List.{List, [], _∷_}
+use Prim.Native.Nat.{ℕ, zero, suc, _+_, _≤_, _<_}
+use native.Mathlib.Numerals.{add-one}
+use native.Mathlib.Nat.{le-of-suc-le-suc, not-suc-le-zero}
+use native.Mathlib.Omega.{arith}
+use lib.ListN.{length, getD, drop, drop-of-length-le}
+use lib.Seq.{drop-cons}
+use Rattle.lists.specs.Any.{any, anyTwo}
+
+or-left : (a b : Bool) → (a || b) ≡ false → a ≡ false
+or-left true b e = e
+or-left false b e = refl
+
+or-right : (a b : Bool) → (a || b) ≡ false → b ≡ false
+or-right true b e = cc
+or-right false b e = e
+
+module _ {A : Type 0} (d : A) (f : A → Bool) where
+  -- one turn: the element at i, then the rest
+  pub any-turn : (xs : List A) (i : ℕ) → i < length xs → any f (drop i xs) ≡ (f (getD xs i d) || any f (drop (i + 1) xs))
+  unfolding any
+  any-turn xs i h = rw (drop-cons xs i d h, add-one) refl
+
+  -- the end: nothing is left
+  pub any-end : (xs : List A) (i : ℕ) → length xs ≤ i → any f (drop i xs) ≡ false
+  unfolding any
+  any-end xs i h = rw (drop-of-length-le xs h) refl
+
+  -- a search that found nothing: no element passes
+  pub any-none : (xs : List A) → any f xs ≡ false → (i : ℕ) → i < length xs → f (getD xs i d) ≡ false
+  unfolding any
+  any-none [] e i h = absurd (not-suc-le-zero h)
+  any-none (x ∷ xs) e zero h = or-left (f x) (any f xs) e
+  any-none (x ∷ xs) e (suc i) h = any-none xs (or-right (f x) (any f xs) e) i (le-of-suc-le-suc h)
+
+module _ {A : Type 0} (d : A) (f : A → A → Bool) where
+  pub any-two-turn : (xs : List A) (i : ℕ) → i < length xs
+      → anyTwo f (drop i xs) ≡ (any (f (getD xs i d)) (drop (i + 1) xs) || anyTwo f (drop (i + 1) xs))
+  unfolding anyTwo
+  any-two-turn xs i h = rw (drop-cons xs i d h, add-one) refl
+
+  pub any-two-end : (xs : List A) (i : ℕ) → length xs ≤ i → anyTwo f (drop i xs) ≡ false
+  unfolding anyTwo
+  any-two-end xs i h = rw (drop-of-length-le xs h) refl
+
+  -- no element passes together with a later one
+  pub any-two-none : (xs : List A) → anyTwo f xs ≡ false → (i j : ℕ) → i < j → j < length xs → f (getD xs i d) (getD xs j d) ≡ false
+  unfolding anyTwo
+  any-two-none [] e i j h k = absurd (not-suc-le-zero k)
+  any-two-none (x ∷ xs) e i zero h k = absurd (not-suc-le-zero h)
+  any-two-none (x ∷ xs) e zero (suc j) h k = any-none d (f x) xs (or-left (any (f x) xs) (anyTwo f xs) e) j (le-of-suc-le-suc k)
+  any-two-none (x ∷ xs) e (suc i) (suc j) h k =
+      any-two-none xs (or-right (any (f x) xs) (anyTwo f xs) e) i j (le-of-suc-le-suc h) (le-of-suc-le-suc k)

@@ -1,0 +1,13 @@
+-- Whether a list holds what a test looks for.
+use mathlib.Core.Bool.{Bool, true, false, _||_}
+use mathlib.Core.List.{List, [], _∷_}
+
+-- some element passes
+unfoldable pub any : {A : Type 0} → (A → Bool) → List A → Bool
+any f [] = false
+any f (x ∷ xs) = f x || any f xs
+
+-- some element and a later one pass together
+unfoldable pub anyTwo : {A : Type 0} → (A → A → Bool) → List A → Bool
+anyTwo f [] = false
+anyTwo f (x ∷ xs) = any (f x) xs || anyTwo f xs

@@ -1,0 +1,63 @@
+-- `platform::rules::length_refused` meets its contract: what its calls and tests say, put together, is the definition. Assumes nothing.
+use Rattle.platform.specs.Rules.{lengthRefused}
+use borrow.Author.Needs.{needs}
+use Rattle.platform.proofs.rules.length_refused.Statement.{statement}
+use Rattle.platform.proofs.rules.length_refused.Tie as tie
+
+wrong-length-requires : tie.Need-wrong-length-requires
+wrong-length-requires c κs = search needs
+
+wrong-length-requires-2 : tie.Need-wrong-length-requires-2
+wrong-length-requires-2 c κs = search needs
+
+wrong-length-requires-3 : tie.Need-wrong-length-requires-3
+wrong-length-requires-3 c κs = search needs
+
+wrong-length-requires-4 : tie.Need-wrong-length-requires-4
+wrong-length-requires-4 c κs = search needs
+
+wrong-length-requires-5 : tie.Need-wrong-length-requires-5
+wrong-length-requires-5 c κs = search needs
+
+wrong-length-requires-6 : tie.Need-wrong-length-requires-6
+wrong-length-requires-6 c κs = search needs
+
+wrong-gpe-length-requires : tie.Need-wrong-gpe-length-requires
+wrong-gpe-length-requires c κs = search needs
+
+wrong-gpe-length-requires-2 : tie.Need-wrong-gpe-length-requires-2
+wrong-gpe-length-requires-2 c κs = search needs
+
+just-one-zero-requires : tie.Need-just-one-zero-requires
+just-one-zero-requires c κs = search needs
+
+just-one-zero-requires-2 : tie.Need-just-one-zero-requires-2
+just-one-zero-requires-2 c κs = search needs
+
+just-one-zero-requires-3 : tie.Need-just-one-zero-requires-3
+just-one-zero-requires-3 c κs = search needs
+
+just-one-zero-requires-4 : tie.Need-just-one-zero-requires-4
+just-one-zero-requires-4 c κs = search needs
+
+returns : tie.Need-returns
+unfolding lengthRefused
+returns c = simp (c .just-one-zero4 .ensures, c .before .just-one-zero3 .ensures, c .before .before .just-one-zero2 .ensures, c .before .before .before .just-one-zero .ensures, c .before .before .before .before .wrong-gpe-length2 .ensures, c .before .before .before .before .before .wrong-gpe-length .ensures, c .before .before .before .before .before .before .wrong-length6 .ensures, c .before .before .before .before .before .before .before .wrong-length5 .ensures, c .before .before .before .before .before .before .before .before .wrong-length4 .ensures, c .before .before .before .before .before .before .before .before .before .wrong-length3 .ensures, c .before .before .before .before .before .before .before .before .before .before .wrong-length2 .ensures, c .before .before .before .before .before .before .before .before .before .before .before .wrong-length .ensures)
+
+pub length-refused-spec : {M : Type 1} → statement M
+length-refused-spec =
+    tie.close
+    (tie.spec
+    wrong-length-requires
+    wrong-length-requires-2
+    wrong-length-requires-3
+    wrong-length-requires-4
+    wrong-length-requires-5
+    wrong-length-requires-6
+    wrong-gpe-length-requires
+    wrong-gpe-length-requires-2
+    just-one-zero-requires
+    just-one-zero-requires-2
+    just-one-zero-requires-3
+    just-one-zero-requires-4
+    returns)

@@ -1,0 +1,21 @@
+-- Blocks of I/O ports.
+use mathlib.Core.Bool.{Bool, not, _&&_, _||_}
+use Prim.Native.Nat.{ℕ, _+_, _-_, max, min}
+use lib.Dec.{eqb, ltb, leb}
+use Rattle.platform.specs.declared.block.Block.{Block}
+
+-- "A PM1b block with address zero is absent"; "PM2, timer and GPE blocks are absent when address and length are both zero", and rule 6 refuses just one of them
+unfoldable pub present : Block → Bool
+present b = not (eqb (b .address) 0)
+
+-- the port is one of the block's
+unfoldable pub holds : Block → ℕ → Bool
+holds b port = present b && (leb (b .address) port && ltb (port - b .address) (b .length))
+
+-- "two present blocks overlap": the first port of one is the other's too
+unfoldable pub overlap : Block → Block → Bool
+overlap a b = present a && (present b && (holds a (b .address) || holds b (a .address)))
+
+-- "a block or SMI_CMD passes port 65,535"
+unfoldable pub passesPorts : Block → Bool
+passesPorts b = ltb 65536 (b .address + b .length)

@@ -1,0 +1,49 @@
+// A block of I/O ports.
+ghost use mathlib.Core.Path.{_≡_};
+ghost use Prim.Native.Nat.{_-_, _<_};
+ghost use Rattle.platform.specs.Blocks.{present, holds, overlap, passesPorts};
+
+// Its first port and how many it has; absent where the address is zero.
+pub struct Block {
+    pub address: u64,
+    pub length: u8,
+}
+
+pub fn is_present(b: Block) -> bool
+    ensures { λ r. ⌜ r ≡ present b ⌝ }
+{
+    b.address != 0
+}
+
+// How far the port lies past the block's first; zero before it.
+pub fn offset(b: Block, port: u64) -> u64
+    ensures { λ r. ⌜ r ≡ port - b .address ⌝ }
+{
+    let first = b.address;
+    if first <= port { port - first } else { 0 }
+}
+
+pub fn holds_port(b: Block, port: u64) -> bool
+    ensures { λ r. ⌜ r ≡ holds b port ⌝ }
+{
+    is_present(b) & ((b.address <= port) & (offset(b, port) < b.length as u64))
+}
+
+pub fn overlaps(a: Block, b: Block) -> bool
+    ensures { λ r. ⌜ r ≡ overlap a b ⌝ }
+{
+    is_present(a) & (is_present(b) & (holds_port(a, b.address) | holds_port(b, a.address)))
+}
+
+pub fn passes_ports(b: Block) -> bool
+    ensures { λ r. ⌜ r ≡ passesPorts b ⌝ }
+{
+    (65536 < b.address) | (room(b.address) < b.length as u64)
+}
+
+// How many ports there are from this one on.
+fn room(port: u64) -> u64
+    ensures { λ r. ⌜ r ≡ 65536 - port ⌝ }
+{
+    if port <= 65536 { 65536 - port } else { 0 }
+}

@@ -1,0 +1,285 @@
+// Rules 5 to 12 of setting up, and what each answer is called.
+use crate::block::Block;
+use crate::block::is_present;
+use crate::block::overlaps;
+use crate::block::passes_ports;
+use crate::settings::Settings;
+use cells::Column;
+ghost use mathlib.Core.Path.{_≡_};
+ghost use Prim.Native.Nat.{_<_};
+ghost use lib.ListN.{drop};
+ghost use Rattle.lists.specs.Any.{any, anyTwo};
+ghost use Rattle.platform.specs.Answer.{answerNumber, firstFailing};
+ghost use Rattle.platform.specs.Blocks.{overlap, passesPorts};
+ghost use Rattle.platform.specs.Rules.{
+  blocksOf,
+  hardwareReduced,
+  wrongLength,
+  wrongGpeLength,
+  justOneZero,
+  lengthRefused,
+  misaligned,
+  placeRefused,
+  overlapRefused,
+  events,
+  gpeRefused,
+  commandsRefused,
+  homeless,
+  homesRefused,
+  sleepPairsRefused,
+  settingsRules,
+};
+
+// The answers of setting up: success, or the line of the table that refuses.
+pub enum SetUpAnswer {
+    Done,
+    TableShort,
+    NoSignature,
+    WrongLength,
+    WrongSum,
+    HardwareReduced,
+    BlockLength,
+    BlockPlace,
+    BlocksOverlap,
+    Gpe1Numbers,
+    SameCommands,
+    WrongHomes,
+    SleepPairs,
+}
+
+pub fn number(a: SetUpAnswer) -> u8
+    ensures { λ r. ⌜ r ≡ answerNumber a ⌝ }
+{
+    match a {
+        SetUpAnswer::Done => 0,
+        SetUpAnswer::TableShort => 1,
+        SetUpAnswer::NoSignature => 2,
+        SetUpAnswer::WrongLength => 3,
+        SetUpAnswer::WrongSum => 4,
+        SetUpAnswer::HardwareReduced => 5,
+        SetUpAnswer::BlockLength => 6,
+        SetUpAnswer::BlockPlace => 7,
+        SetUpAnswer::BlocksOverlap => 8,
+        SetUpAnswer::Gpe1Numbers => 9,
+        SetUpAnswer::SameCommands => 10,
+        SetUpAnswer::WrongHomes => 11,
+        SetUpAnswer::SleepPairs => 12,
+    }
+}
+
+// Lines 5 to 12: the first that refuses these settings.
+pub fn judge(s: Settings) -> SetUpAnswer
+    ensures { λ r. ⌜ r ≡ firstFailing (settingsRules s) ⌝ }
+{
+    if hardware_reduced(s) {
+        return SetUpAnswer::HardwareReduced;
+    }
+    if length_refused(s) {
+        return SetUpAnswer::BlockLength;
+    }
+    if place_refused(s) {
+        return SetUpAnswer::BlockPlace;
+    }
+    if overlap_refused(s) {
+        return SetUpAnswer::BlocksOverlap;
+    }
+    if gpe_refused(s) {
+        return SetUpAnswer::Gpe1Numbers;
+    }
+    if commands_refused(s) {
+        return SetUpAnswer::SameCommands;
+    }
+    if homes_refused(s) {
+        return SetUpAnswer::WrongHomes;
+    }
+    if sleep_pairs_refused(s) {
+        return SetUpAnswer::SleepPairs;
+    }
+    SetUpAnswer::Done
+}
+
+// The blocks in the order of their FADT address fields, SMI_CMD first.
+pub fn blocks(s: Settings) -> [Block; 9]
+    ensures { λ r. ⌜ r ≡ blocksOf s ⌝ }
+{
+    let smi = Block {
+        address: s.smi_cmd,
+        length: 1,
+    };
+    let evt_a = s.pm1a_evt;
+    let evt_b = s.pm1b_evt;
+    let cnt_a = s.pm1a_cnt;
+    let cnt_b = s.pm1b_cnt;
+    let pm2 = s.pm2_cnt;
+    let tmr = s.pm_tmr;
+    let gpe0 = s.gpe0;
+    let gpe1 = s.gpe1;
+    [smi, evt_a, evt_b, cnt_a, cnt_b, pm2, tmr, gpe0, gpe1]
+}
+
+fn hardware_reduced(s: Settings) -> bool
+    ensures { λ r. ⌜ r ≡ hardwareReduced s ⌝ }
+{
+    cells::flag(s.flags, 20)
+}
+
+fn wrong_length(n: u8, b: Block) -> bool
+    ensures { λ r. ⌜ r ≡ wrongLength n b ⌝ }
+{
+    is_present(b) & (b.length != n)
+}
+
+fn wrong_gpe_length(b: Block) -> bool
+    ensures { λ r. ⌜ r ≡ wrongGpeLength b ⌝ }
+{
+    is_present(b) & !((b.length % 2 == 0) & ((2 <= b.length) & (b.length <= 16)))
+}
+
+fn just_one_zero(b: Block) -> bool
+    ensures { λ r. ⌜ r ≡ justOneZero b ⌝ }
+{
+    ((b.address == 0) & (b.length != 0)) | ((b.address != 0) & (b.length == 0))
+}
+
+fn length_refused(s: Settings) -> bool
+    ensures { λ r. ⌜ r ≡ lengthRefused s ⌝ }
+{
+    let evt_a = s.pm1a_evt;
+    let evt_b = s.pm1b_evt;
+    let cnt_a = s.pm1a_cnt;
+    let cnt_b = s.pm1b_cnt;
+    let pm2 = s.pm2_cnt;
+    let tmr = s.pm_tmr;
+    let gpe0 = s.gpe0;
+    let gpe1 = s.gpe1;
+    wrong_length(4, evt_a)
+        | wrong_length(4, evt_b)
+        | wrong_length(2, cnt_a)
+        | wrong_length(2, cnt_b)
+        | wrong_length(1, pm2)
+        | wrong_length(4, tmr)
+        | wrong_gpe_length(gpe0)
+        | wrong_gpe_length(gpe1)
+        | just_one_zero(pm2)
+        | just_one_zero(tmr)
+        | just_one_zero(gpe0)
+        | just_one_zero(gpe1)
+}
+
+fn misaligned(n: u64, b: Block) -> bool
+    requires { ⌜ 0 < n ⌝ }
+    ensures { λ r. ⌜ r ≡ misaligned n b ⌝ }
+{
+    b.address % n != 0
+}
+
+fn any_passes_ports(bs: [Block; 9]) -> bool
+    ensures { λ r. ⌜ r ≡ any passesPorts bs ⌝ }
+{
+    let mut i = 0;
+    while i < 9 {
+        if passes_ports(bs[i]) {
+            return true;
+        }
+        i += 1;
+    }
+    false
+}
+
+fn place_refused(s: Settings) -> bool
+    ensures { λ r. ⌜ r ≡ placeRefused s ⌝ }
+{
+    let evt_a = s.pm1a_evt;
+    let evt_b = s.pm1b_evt;
+    let cnt_a = s.pm1a_cnt;
+    let cnt_b = s.pm1b_cnt;
+    let tmr = s.pm_tmr;
+    !is_present(evt_a)
+        | !is_present(cnt_a)
+        | misaligned(4, evt_a)
+        | misaligned(4, evt_b)
+        | misaligned(4, tmr)
+        | misaligned(2, cnt_a)
+        | misaligned(2, cnt_b)
+        | any_passes_ports(blocks(s))
+}
+
+fn overlaps_later(b: Block, bs: [Block; 9], from: usize) -> bool
+    ensures { λ r. ⌜ r ≡ any (overlap b) (drop from bs) ⌝ }
+{
+    let mut j = from;
+    while j < 9 {
+        if overlaps(b, bs[j]) {
+            return true;
+        }
+        j += 1;
+    }
+    false
+}
+
+fn any_overlap(bs: [Block; 9]) -> bool
+    ensures { λ r. ⌜ r ≡ anyTwo overlap bs ⌝ }
+{
+    let mut i = 0;
+    while i < 9 {
+        if overlaps_later(bs[i], bs, i + 1) {
+            return true;
+        }
+        i += 1;
+    }
+    false
+}
+
+fn overlap_refused(s: Settings) -> bool
+    ensures { λ r. ⌜ r ≡ overlapRefused s ⌝ }
+{
+    any_overlap(blocks(s))
+}
+
+fn events(b: Block) -> u64
+    ensures { λ r. ⌜ r ≡ events b ⌝ }
+{
+    4 * (b.length as u64)
+}
+
+fn gpe_refused(s: Settings) -> bool
+    ensures { λ r. ⌜ r ≡ gpeRefused s ⌝ }
+{
+    let gpe0 = s.gpe0;
+    let gpe1 = s.gpe1;
+    let base = s.gpe1_base as u64;
+    is_present(gpe1) & ((base < events(gpe0)) | (256 < base + events(gpe1)))
+}
+
+fn commands_refused(s: Settings) -> bool
+    ensures { λ r. ⌜ r ≡ commandsRefused s ⌝ }
+{
+    (s.smi_cmd != 0) & (s.acpi_enable == s.acpi_disable)
+}
+
+fn homeless(b: Block, homes: u16) -> bool
+    ensures { λ r. ⌜ r ≡ homeless b homes ⌝ }
+{
+    !is_present(b) & (homes != 0)
+}
+
+fn homes_refused(s: Settings) -> bool
+    ensures { λ r. ⌜ r ≡ homesRefused s ⌝ }
+{
+    let evt_b = s.pm1b_evt;
+    let cnt_b = s.pm1b_cnt;
+    let known = cells::mask(Column::Known, 0, false);
+    !bits::within16(known, s.event_homes)
+        | !bits::within16(0x0007, s.control_homes)
+        | homeless(evt_b, s.event_homes)
+        | homeless(cnt_b, s.control_homes)
+}
+
+fn sleep_pairs_refused(s: Settings) -> bool
+    ensures { λ r. ⌜ r ≡ sleepPairsRefused s ⌝ }
+{
+    let cnt_b = s.pm1b_cnt;
+    let table = s.sleep;
+    let pairs = table.pairs();
+    sleep::refused(pairs, is_present(cnt_b))
+}

@@ -1,0 +1,27 @@
+// What setting up keeps of the table and of what the host gives.
+use crate::block::Block;
+use sleep::SleepTable;
+
+pub struct Settings {
+    // the port where the guest writes commands to the firmware
+    pub smi_cmd: u64,
+    pub acpi_enable: u8,
+    pub acpi_disable: u8,
+    pub pm1a_evt: Block,
+    pub pm1b_evt: Block,
+    pub pm1a_cnt: Block,
+    pub pm1b_cnt: Block,
+    pub pm2_cnt: Block,
+    pub pm_tmr: Block,
+    pub gpe0: Block,
+    pub gpe1: Block,
+    // the number of GPE1's first event
+    pub gpe1_base: u8,
+    pub flags: u32,
+    // a bit set: the event, or the control bit, lives in block B
+    pub event_homes: u16,
+    pub control_homes: u16,
+    // whether the power override is fitted
+    pub power_override: bool,
+    pub sleep: SleepTable,
+}
