@@ -1,0 +1,19 @@
+-- `fadt::block` meets its contract: what its calls and tests say, put together, is the definition. Assumes nothing.
+use borrow.Author.Needs.{needs}
+use Rattle.fadt.proofs.block.Statement.{statement}
+use Rattle.fadt.proofs.block.Tie as tie
+
+dword-at-requires : tie.Need-dword-at-requires
+dword-at-requires c κs = search needs
+
+cast-first : tie.Need-cast-first
+cast-first c = search needs
+
+byte-requires : tie.Need-byte-requires
+byte-requires c κs = search needs
+
+returns : tie.Need-returns
+returns c = simp (c .byte .ensures, c .before .dword-at .ensures)
+
+pub block-spec : {M : Type 1} → statement M
+block-spec = tie.close (tie.spec dword-at-requires cast-first byte-requires returns)

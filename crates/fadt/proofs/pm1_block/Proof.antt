@@ -1,0 +1,23 @@
+-- `fadt::pm1_block` meets its contract: what its calls and tests say, put together, is the definition. Assumes nothing.
+use borrow.Author.Needs.{needs}
+use Rattle.fadt.proofs.pm1_block.Statement.{statement}
+use Rattle.fadt.proofs.pm1_block.Tie as tie
+
+dword-at-requires : tie.Need-dword-at-requires
+dword-at-requires c κs = search needs
+
+cast-first : tie.Need-cast-first
+cast-first c = search needs
+
+byte-requires : tie.Need-byte-requires
+byte-requires c κs = search needs
+
+length-if-requires : tie.Need-length-if-requires
+length-if-requires c κs = search needs
+
+returns : tie.Need-returns
+returns c = simp (c .length-if .ensures, c .before .byte .ensures, c .before .before .dword-at .ensures)
+
+pub pm1-block-spec : {M : Type 1} → statement M
+pm1-block-spec =
+    tie.close (tie.spec dword-at-requires cast-first byte-requires length-if-requires returns)

@@ -1,0 +1,12 @@
+-- `fadt::table_short` meets its contract: what its calls and tests say, put together, is the definition. Assumes nothing.
+use mathlib.Core.Path.{refl}
+use Rattle.fadt.specs.Table.{tableShort}
+use Rattle.fadt.proofs.table_short.Statement.{statement}
+use Rattle.fadt.proofs.table_short.Tie as tie
+
+returns : tie.Need-returns
+unfolding tableShort
+returns c = refl
+
+pub table-short-spec : {M : Type 1} → statement M
+table-short-spec = tie.close (tie.spec returns)

@@ -1,0 +1,18 @@
+-- `fadt::wrong_length` meets its contract: what its calls and tests say, put together, is the definition. Assumes nothing.
+use Rattle.fadt.specs.Table.{wrongLength}
+use borrow.Author.Needs.{needs}
+use Rattle.fadt.proofs.wrong_length.Statement.{statement}
+use Rattle.fadt.proofs.wrong_length.Tie as tie
+
+dword-at-requires : tie.Need-dword-at-requires
+dword-at-requires c κs = search needs
+
+cast-n : tie.Need-cast-n
+cast-n c = search needs
+
+returns : tie.Need-returns
+unfolding wrongLength
+returns c = simp (c .dword-at .ensures)
+
+pub wrong-length-spec : {M : Type 1} → statement M
+wrong-length-spec = tie.close (tie.spec dword-at-requires cast-n returns)

@@ -1,0 +1,48 @@
+-- "Fields by byte offset": the settings that a table and the host give.
+use mathlib.Core.Bool.{Bool, not, cond}
+use mathlib.Core.List.{List}
+use Prim.Native.Nat.{ℕ, _+_, _*_}
+use lib.Dec.{eqb}
+use lib.ListN.{getD}
+use Rattle.sleep.specs.Pairs.{sleepTable}
+use Rattle.platform.specs.declared.block.Block.{Block}
+use Rattle.platform.specs.declared.settings.Settings.{Settings}
+
+-- the byte at an offset; zero past the end
+abbrev pub byte : List ℕ → ℕ → ℕ
+byte t i = getD t i 0
+
+-- "All numbers are little-endian": four bytes from an offset on
+unfoldable pub dword : List ℕ → ℕ → ℕ
+dword t i = byte t i + 256 * byte t (i + 1) + 65536 * byte t (i + 2) + 16777216 * byte t (i + 3)
+
+-- a block from the offsets of its address and its length
+abbrev pub blockOf : List ℕ → ℕ → ℕ → Block
+blockOf t address length = record { address = dword t address; length = byte t length }
+
+-- "A PM1b block with address zero is absent": its length counts for nothing then, and is kept as zero
+abbrev pub pm1Block : List ℕ → ℕ → ℕ → Block
+pm1Block t address length = record { address = dword t address; length = cond (not (eqb (dword t address) 0)) (byte t length) 0 }
+
+-- "Given: FADT bytes; event homes and control homes; whether the power override is fitted; for each of S0 to S5, absent or a pair (a, b)"
+abbrev pub settingsOf : List ℕ → ℕ → ℕ → Bool → List (List ℕ) → Settings
+settingsOf t event-homes control-homes power-override pairs =
+    record {
+      «smi_cmd» = dword t 48;
+      «acpi_enable» = byte t 52;
+      «acpi_disable» = byte t 53;
+      «pm1a_evt» = pm1Block t 56 88;
+      «pm1b_evt» = pm1Block t 60 88;
+      «pm1a_cnt» = pm1Block t 64 89;
+      «pm1b_cnt» = pm1Block t 68 89;
+      «pm2_cnt» = blockOf t 72 90;
+      «pm_tmr» = blockOf t 76 91;
+      gpe0 = blockOf t 80 92;
+      gpe1 = blockOf t 84 93;
+      «gpe1_base» = byte t 94;
+      flags = dword t 112;
+      «event_homes» = event-homes;
+      «control_homes» = control-homes;
+      «power_override» = power-override;
+      sleep = sleepTable pairs;
+    }

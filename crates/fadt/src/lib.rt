@@ -1,0 +1,179 @@
+// The FADT's bytes: rules 1 to 4 of setting up, and the settings read from them.
+use platform::Block;
+use platform::SetUpAnswer;
+use platform::Settings;
+use sleep::SleepTable;
+ghost use mathlib.Core.Path.{_≡_};
+ghost use mathlib.Core.Bool.{cond};
+ghost use lib.ListN.{take, getD};
+ghost use Prim.Native.Nat.{_%_};
+ghost use Rattle.platform.specs.Answer.{firstFailing};
+ghost use Rattle.fadt.specs.Table.{
+  sum,
+  tableShort,
+  noSignature,
+  wrongLength,
+  wrongSum,
+  setUpRules,
+};
+ghost use Rattle.fadt.specs.Fields.{dword, blockOf, pm1Block, settingsOf};
+
+const SIGNATURE: [u8; 4] = *b"FACP";
+
+// Lines 1 to 12 of the table: the first that refuses.
+pub fn judge(table: &[u8], s: Settings) -> SetUpAnswer
+    ensures { λ r. ⌜ r ≡ firstFailing (setUpRules (now (table .entry)) s) ⌝ }
+{
+    if table_short(table) {
+        return SetUpAnswer::TableShort;
+    }
+    if no_signature(table) {
+        return SetUpAnswer::NoSignature;
+    }
+    if wrong_length(table) {
+        return SetUpAnswer::WrongLength;
+    }
+    if wrong_sum(table) {
+        return SetUpAnswer::WrongSum;
+    }
+    platform::judge(s)
+}
+
+// The settings that the table and the host give; what lies past the table's end reads as zero.
+pub fn settings(
+    table: &[u8],
+    event_homes: u16,
+    control_homes: u16,
+    power_override: bool,
+    pairs: [[u8; 2]; 6],
+) -> Settings
+    ensures { λ r. ⌜ r ≡ settingsOf (now (table .entry)) «event_homes» «control_homes» «power_override» pairs ⌝ }
+{
+    let smi_cmd = dword_at(table, 48) as u64;
+    let acpi_enable = byte(table, 52);
+    let acpi_disable = byte(table, 53);
+    let pm1a_evt = pm1_block(table, 56, 88);
+    let pm1b_evt = pm1_block(table, 60, 88);
+    let pm1a_cnt = pm1_block(table, 64, 89);
+    let pm1b_cnt = pm1_block(table, 68, 89);
+    let pm2_cnt = block(table, 72, 90);
+    let pm_tmr = block(table, 76, 91);
+    let gpe0 = block(table, 80, 92);
+    let gpe1 = block(table, 84, 93);
+    let gpe1_base = byte(table, 94);
+    let flags = dword_at(table, 112);
+    let sleep = SleepTable::new(pairs);
+    Settings {
+        smi_cmd,
+        acpi_enable,
+        acpi_disable,
+        pm1a_evt,
+        pm1b_evt,
+        pm1a_cnt,
+        pm1b_cnt,
+        pm2_cnt,
+        pm_tmr,
+        gpe0,
+        gpe1,
+        gpe1_base,
+        flags,
+        event_homes,
+        control_homes,
+        power_override,
+        sleep,
+    }
+}
+
+// A byte of the table; zero past its end.
+fn byte(table: &[u8], i: usize) -> u8
+    ensures { λ r. ⌜ r ≡ getD (now (table .entry)) i 0 ⌝ }
+{
+    if i < table.len() { table[i] } else { 0 }
+}
+
+// Four bytes, the lowest first.
+fn dword_at(table: &[u8], at: u8) -> u32
+    ensures { λ r. ⌜ r ≡ dword (now (table .entry)) at ⌝ }
+{
+    let i = at as usize;
+    let b0 = byte(table, i) as u32;
+    let b1 = byte(table, i + 1) as u32;
+    let b2 = byte(table, i + 2) as u32;
+    let b3 = byte(table, i + 3) as u32;
+    b0 + 256 * b1 + 65536 * b2 + 16777216 * b3
+}
+
+fn table_short(table: &[u8]) -> bool
+    ensures { λ r. ⌜ r ≡ tableShort (now (table .entry)) ⌝ }
+{
+    table.len() < 116
+}
+
+fn no_signature(table: &[u8]) -> bool
+    ensures { λ r. ⌜ r ≡ noSignature (now (table .entry)) ⌝ }
+{
+    let b0 = byte(table, 0);
+    let b1 = byte(table, 1);
+    let b2 = byte(table, 2);
+    let b3 = byte(table, 3);
+    !((b0 == SIGNATURE[0]) & ((b1 == SIGNATURE[1]) & ((b2 == SIGNATURE[2]) & (b3 == SIGNATURE[3]))))
+}
+
+fn wrong_length(table: &[u8]) -> bool
+    ensures { λ r. ⌜ r ≡ wrongLength (now (table .entry)) ⌝ }
+{
+    let n = dword_at(table, 4) as usize;
+    (n < 116) | (table.len() < n)
+}
+
+// The sum of the first n bytes, modulo 256.
+fn sum_of(table: &[u8], n: usize) -> u64
+    ensures { λ r. ⌜ r ≡ sum (take n (now (table .entry))) % 256 ⌝ }
+{
+    let mut total: u64 = 0;
+    let mut i: usize = 0;
+    while i < n {
+        if table.len() <= i {
+            return total;
+        }
+        total = (total + table[i] as u64) % 256;
+        i += 1;
+    }
+    total
+}
+
+fn wrong_sum(table: &[u8]) -> bool
+    ensures { λ r. ⌜ r ≡ wrongSum (now (table .entry)) ⌝ }
+{
+    let n = dword_at(table, 4) as usize;
+    sum_of(table, n) != 0
+}
+
+fn block(table: &[u8], address: u8, length: u8) -> Block
+    ensures { λ r. ⌜ r ≡ blockOf (now (table .entry)) address length ⌝ }
+{
+    let first = dword_at(table, address) as u64;
+    let n = byte(table, length as usize);
+    Block {
+        address: first,
+        length: n,
+    }
+}
+
+// Both PM1 blocks of a group share one length field; that of an absent block is zero.
+fn pm1_block(table: &[u8], address: u8, length: u8) -> Block
+    ensures { λ r. ⌜ r ≡ pm1Block (now (table .entry)) address length ⌝ }
+{
+    let first = dword_at(table, address) as u64;
+    let n = byte(table, length as usize);
+    Block {
+        address: first,
+        length: length_if(first != 0, n),
+    }
+}
+
+fn length_if(present: bool, n: u8) -> u8
+    ensures { λ r. ⌜ r ≡ cond present n 0 ⌝ }
+{
+    if present { n } else { 0 }
+}

@@ -1,0 +1,75 @@
+-- "Power-on: every cell, the counter and hold zero, no release flag, no command, disarmed, state S0, button up, SCI_EN set exactly if SMI_CMD is zero."
+use mathlib.Core.Bool.{Bool, true, false}
+use mathlib.Core.List.{List, [], _∷_}
+use Prim.Native.Nat.{ℕ}
+use lib.Dec.{eqb}
+use lib.ListN.{replicate}
+use Rattle.sleep.specs.Pairs.{sleepTable}
+use Rattle.platform.specs.declared.block.Block.{Block}
+use Rattle.platform.specs.declared.settings.Settings.{Settings}
+use Rattle.machine.specs.declared.Machine.{Machine}
+
+-- the most status bytes, and the most enable bytes, of a GPE block: "even and 2 to 16", half of them each
+abbrev pub gpeBytes : ℕ
+gpeBytes = 8
+
+abbrev pub noBytes : List ℕ
+noBytes = replicate gpeBytes 0
+
+-- every cell, count and flag zero, with these settings, and SCI_EN as given
+abbrev pub zeroed : Settings → Bool → Machine
+zeroed s sci-en =
+    record {
+      settings = s;
+      «pm1_sts» = 0;
+      «pm1_en» = 0;
+      «gpe0_sts» = noBytes;
+      «gpe0_en» = noBytes;
+      «gpe1_sts» = noBytes;
+      «gpe1_en» = noBytes;
+      counter = 0;
+      hold = 0;
+      button = false;
+      «command_waits» = false;
+      command = 0;
+      release = false;
+      armed = false;
+      «slp_typ_a» = 0;
+      «slp_typ_b» = 0;
+      «sci_en» = sci-en;
+      «bm_rld» = false;
+      «arb_dis» = false;
+      state = 0;
+    }
+
+abbrev pub powerOn : Settings → Machine
+powerOn s = zeroed s (eqb (s .«smi_cmd») 0)
+
+abbrev pub noBlock : Block
+noBlock = record { address = 0; length = 0 }
+
+-- "any refusal to make one gives it all zero": the settings too
+abbrev pub noSettings : Settings
+noSettings =
+    record {
+      «smi_cmd» = 0;
+      «acpi_enable» = 0;
+      «acpi_disable» = 0;
+      «pm1a_evt» = noBlock;
+      «pm1b_evt» = noBlock;
+      «pm1a_cnt» = noBlock;
+      «pm1b_cnt» = noBlock;
+      «pm2_cnt» = noBlock;
+      «pm_tmr» = noBlock;
+      gpe0 = noBlock;
+      gpe1 = noBlock;
+      «gpe1_base» = 0;
+      flags = 0;
+      «event_homes» = 0;
+      «control_homes» = 0;
+      «power_override» = false;
+      sleep = sleepTable (replicate 6 (0 ∷ 0 ∷ []));
+    }
+
+abbrev pub allZero : Machine
+allZero = zeroed noSettings false

@@ -1,0 +1,154 @@
+// The machine: all that a guest's power hardware holds, and setting it up.
+use platform::Block;
+use platform::SetUpAnswer;
+use platform::Settings;
+use sleep::SleepTable;
+ghost use mathlib.Core.Path.{_≡_};
+ghost use mathlib.Core.Bool.{false};
+ghost use Rattle.machine.specs.PowerOn.{zeroed, powerOn, noBlock, noSettings, allZero};
+ghost use Rattle.machine.specs.SetUp.{machineFor, setUpOf};
+
+// The most status bytes, and the most enable bytes, of a GPE block.
+pub const GPE_BYTES: usize = 8;
+
+pub struct Machine {
+    pub settings: Settings,
+    // the event cells of blocks A and B together; a bit's home says where it is read and written
+    pub pm1_sts: u16,
+    pub pm1_en: u16,
+    // bytes past a block's own are zero
+    pub gpe0_sts: [u8; GPE_BYTES],
+    pub gpe0_en: [u8; GPE_BYTES],
+    pub gpe1_sts: [u8; GPE_BYTES],
+    pub gpe1_en: [u8; GPE_BYTES],
+    // the PM timer
+    pub counter: u32,
+    // ticks that the power button has been down
+    pub hold: u32,
+    // the power button is down
+    pub button: bool,
+    // whether a command waits for the firmware, and its byte; zero where none waits
+    pub command_waits: bool,
+    pub command: u8,
+    // the release flag: GBL_RLS was written one
+    pub release: bool,
+    // SLP_EN was written at A, and B is awaited
+    pub armed: bool,
+    pub slp_typ_a: u8,
+    pub slp_typ_b: u8,
+    pub sci_en: bool,
+    pub bm_rld: bool,
+    pub arb_dis: bool,
+    // 0 to 5 for S0 to S5
+    pub state: u8,
+}
+
+// What setting up gives: its answer, and the machine.
+pub struct SetUp {
+    pub answer: SetUpAnswer,
+    pub machine: Machine,
+}
+
+// Every cell, count and flag zero.
+fn blank(settings: Settings) -> Machine
+    ensures { λ r. ⌜ r ≡ zeroed settings false ⌝ }
+{
+    Machine {
+        settings,
+        pm1_sts: 0,
+        pm1_en: 0,
+        gpe0_sts: [0; GPE_BYTES],
+        gpe0_en: [0; GPE_BYTES],
+        gpe1_sts: [0; GPE_BYTES],
+        gpe1_en: [0; GPE_BYTES],
+        counter: 0,
+        hold: 0,
+        button: false,
+        command_waits: false,
+        command: 0,
+        release: false,
+        armed: false,
+        slp_typ_a: 0,
+        slp_typ_b: 0,
+        sci_en: false,
+        bm_rld: false,
+        arb_dis: false,
+        state: 0,
+    }
+}
+
+pub fn power_on(settings: Settings) -> Machine
+    ensures { λ r. ⌜ r ≡ powerOn settings ⌝ }
+{
+    let mut m = blank(settings);
+    m.sci_en = settings.smi_cmd == 0;
+    m
+}
+
+fn no_block() -> Block
+    ensures { λ r. ⌜ r ≡ noBlock ⌝ }
+{
+    Block {
+        address: 0,
+        length: 0,
+    }
+}
+
+fn no_settings() -> Settings
+    ensures { λ r. ⌜ r ≡ noSettings ⌝ }
+{
+    let block = no_block();
+    let sleep = SleepTable::new([[0; 2]; 6]);
+    Settings {
+        smi_cmd: 0,
+        acpi_enable: 0,
+        acpi_disable: 0,
+        pm1a_evt: block,
+        pm1b_evt: block,
+        pm1a_cnt: block,
+        pm1b_cnt: block,
+        pm2_cnt: block,
+        pm_tmr: block,
+        gpe0: block,
+        gpe1: block,
+        gpe1_base: 0,
+        flags: 0,
+        event_homes: 0,
+        control_homes: 0,
+        power_override: false,
+        sleep,
+    }
+}
+
+pub fn all_zero() -> Machine
+    ensures { λ r. ⌜ r ≡ allZero ⌝ }
+{
+    blank(no_settings())
+}
+
+// The machine that goes with an answer: power-on, or all zero.
+fn machine_for(number: u8, settings: Settings) -> Machine
+    ensures { λ r. ⌜ r ≡ machineFor number settings ⌝ }
+{
+    if number == 0 {
+        power_on(settings)
+    } else {
+        all_zero()
+    }
+}
+
+// Sets a machine up from a FADT and what the host gives, or says which line of the table refuses it.
+pub fn set_up(
+    table: &[u8],
+    event_homes: u16,
+    control_homes: u16,
+    power_override: bool,
+    pairs: [[u8; 2]; 6],
+) -> SetUp
+    ensures { λ r. ⌜ r ≡ setUpOf (now (table .entry)) «event_homes» «control_homes» «power_override» pairs ⌝ }
+{
+    let s = fadt::settings(table, event_homes, control_homes, power_override, pairs);
+    let answer = fadt::judge(table, s);
+    let machine = machine_for(platform::number(answer), s);
+    SetUp { answer, machine }
+}
