@@ -1,23 +1,15 @@
--- The laws of `any` and `anyTwo`: one turn of a loop over the rest of a list and its end, and what a failed search tells of each place.
+-- The laws of `any`, `anyTwo` and `anyOf`: one turn of a loop over the rest of a list and its end, and what a failed search tells of each place.
 -- Assumes nothing.
-use mathlib.Core.Path.{_≡_, refl, sym, _∙_, ap}
+use mathlib.Core.Path.{_≡_, refl}
 use mathlib.Core.Bool.{Bool, true, false, _||_}
 use mathlib.Core.List.{List, [], _∷_}
 use Prim.Native.Nat.{ℕ, zero, suc, _+_, _≤_, _<_}
 use native.Mathlib.Numerals.{add-one}
 use native.Mathlib.Nat.{le-of-suc-le-suc, not-suc-le-zero}
-use native.Mathlib.Omega.{arith}
 use lib.ListN.{length, getD, drop, drop-of-length-le}
 use lib.Seq.{drop-cons}
-use Rattle.lists.specs.Any.{any, anyTwo}
-
-or-left : (a b : Bool) → (a || b) ≡ false → a ≡ false
-or-left true b e = e
-or-left false b e = refl
-
-or-right : (a b : Bool) → (a || b) ≡ false → b ≡ false
-or-right true b e = cc
-or-right false b e = e
+use Rattle.lists.specs.Any.{any, anyTwo, joined, anyOf}
+use Rattle.lists.proofs.Tests.{or-left, or-right}
 
 module _ {A : Type 0} (d : A) (f : A → Bool) where
   -- one turn: the element at i, then the rest
@@ -37,6 +29,14 @@ module _ {A : Type 0} (d : A) (f : A → Bool) where
   any-none (x ∷ xs) e zero h = or-left (f x) (any f xs) e
   any-none (x ∷ xs) e (suc i) h = any-none xs (or-right (f x) (any f xs) e) i (le-of-suc-le-suc h)
 
+-- .. nor in the rest of the list
+pub any-drop : {A : Type 0} (f : A → Bool) (xs : List A) (n : ℕ) → any f xs ≡ false → any f (drop n xs) ≡ false
+unfolding any
+any-drop f [] zero e = e
+any-drop f [] (suc n) e = e
+any-drop f (x ∷ xs) zero e = e
+any-drop f (x ∷ xs) (suc n) e = any-drop f xs n (or-right (f x) (any f xs) e)
+
 module _ {A : Type 0} (d : A) (f : A → A → Bool) where
   pub any-two-turn : (xs : List A) (i : ℕ) → i < length xs
       → anyTwo f (drop i xs) ≡ (any (f (getD xs i d)) (drop (i + 1) xs) || anyTwo f (drop (i + 1) xs))
@@ -55,3 +55,18 @@ module _ {A : Type 0} (d : A) (f : A → A → Bool) where
   any-two-none (x ∷ xs) e zero (suc j) h k = any-none d (f x) xs (or-left (any (f x) xs) (anyTwo f xs) e) j (le-of-suc-le-suc k)
   any-two-none (x ∷ xs) e (suc i) (suc j) h k =
       any-two-none xs (or-right (any (f x) xs) (anyTwo f xs) e) i j (le-of-suc-le-suc h) (le-of-suc-le-suc k)
+
+-- none of the tests is true: each is false
+joined-first : (t : Bool) (us : List Bool) → joined t us ≡ false → t ≡ false
+joined-first t [] e = e
+joined-first t (u ∷ us) e = or-left t u (joined-first (t || u) us e)
+
+joined-none : (t : Bool) (us : List Bool) → joined t us ≡ false → (i : ℕ) → i < length us → getD us i true ≡ false
+joined-none t [] e i h = absurd (not-suc-le-zero h)
+joined-none t (u ∷ us) e zero h = or-right t u (joined-first (t || u) us e)
+joined-none t (u ∷ us) e (suc i) h = joined-none (t || u) us e i (le-of-suc-le-suc h)
+
+pub any-of-none : (ts : List Bool) → anyOf ts ≡ false → (i : ℕ) → i < length ts → getD ts i true ≡ false
+any-of-none [] e i h = absurd (not-suc-le-zero h)
+any-of-none (t ∷ us) e zero h = joined-first t us e
+any-of-none (t ∷ us) e (suc i) h = joined-none t us e i (le-of-suc-le-suc h)

@@ -11,3 +11,12 @@ any f (x ∷ xs) = f x || any f xs
 unfoldable pub anyTwo : {A : Type 0} → (A → A → Bool) → List A → Bool
 anyTwo f [] = false
 anyTwo f (x ∷ xs) = any (f x) xs || anyTwo f xs
+
+-- some test of the list is true; joined from the left, as `a | b | c` is
+abbrev pub joined : Bool → List Bool → Bool
+joined t [] = t
+joined t (u ∷ us) = joined (t || u) us
+
+abbrev pub anyOf : List Bool → Bool
+anyOf [] = false
+anyOf (t ∷ ts) = joined t ts

@@ -5,7 +5,7 @@ use Prim.Native.Nat.{ℕ}
 use lib.Dec.{eqb}
 use lib.ListN.{replicate}
 use Rattle.sleep.specs.Pairs.{sleepTable}
-use Rattle.platform.specs.declared.block.Block.{Block}
+use Rattle.platform.specs.Blocks.{noBlock}
 use Rattle.platform.specs.declared.settings.Settings.{Settings}
 use Rattle.machine.specs.declared.Machine.{Machine}
 
@@ -44,9 +44,6 @@ zeroed s sci-en =
 
 abbrev pub powerOn : Settings → Machine
 powerOn s = zeroed s (eqb (s .«smi_cmd») 0)
-
-abbrev pub noBlock : Block
-noBlock = record { address = 0; length = 0 }
 
 -- "any refusal to make one gives it all zero": the settings too
 abbrev pub noSettings : Settings

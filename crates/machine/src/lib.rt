@@ -5,7 +5,8 @@ use platform::Settings;
 use sleep::SleepTable;
 ghost use mathlib.Core.Path.{_≡_};
 ghost use mathlib.Core.Bool.{false};
-ghost use Rattle.machine.specs.PowerOn.{zeroed, powerOn, noBlock, noSettings, allZero};
+ghost use Rattle.platform.specs.Blocks.{noBlock};
+ghost use Rattle.machine.specs.PowerOn.{zeroed, powerOn, noSettings, allZero};
 ghost use Rattle.machine.specs.SetUp.{machineFor, setUpOf};
 
 // The most status bytes, and the most enable bytes, of a GPE block.

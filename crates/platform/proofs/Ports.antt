@@ -1,15 +1,10 @@
--- Laws of blocks of ports. Assumes nothing.
+-- Arithmetic of ports. Assumes nothing.
 use mathlib.Core.Bool.{Bool, true, false, _||_}
 use mathlib.Core.Path.{_≡_, refl, sym, _∙_}
 use Prim.Native.Nat.{ℕ, _+_, _-_, _≤_, _<_}
 use native.Mathlib.Omega.{arith}
 use borrow.Author.Tests.{ltb-true, ltb-false, lt-ltb, le-ltb}
 use lib.Dec.{ltb}
-use Rattle.platform.specs.declared.block.Block.{Block}
-
--- what an index past the blocks would read
-abbrev pub no-block : Block
-no-block = record { address = 0; length = 0 }
 
 -- whether a sum passes a limit, by the room that is left
 pub sum-passes : (limit a l : ℕ) → (ltb limit a || ltb (limit - a) l) ≡ ltb limit (a + l)

@@ -1,6 +1,6 @@
 -- Blocks of I/O ports.
 use mathlib.Core.Bool.{Bool, not, _&&_, _||_}
-use Prim.Native.Nat.{ℕ, _+_, _-_, max, min}
+use Prim.Native.Nat.{ℕ, _+_, _-_}
 use lib.Dec.{eqb, ltb, leb}
 use Rattle.platform.specs.declared.block.Block.{Block}
 
@@ -19,3 +19,7 @@ overlap a b = present a && (present b && (holds a (b .address) || holds b (a .ad
 -- "a block or SMI_CMD passes port 65,535"
 unfoldable pub passesPorts : Block → Bool
 passesPorts b = ltb 65536 (b .address + b .length)
+
+-- an absent block; also what an index past a list of blocks reads
+abbrev pub noBlock : Block
+noBlock = record { address = 0; length = 0 }

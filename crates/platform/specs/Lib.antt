@@ -1,3 +1,4 @@
 pub mod Blocks
 pub mod Answer
 pub mod Rules
+pub mod Legal

@@ -3,7 +3,7 @@ use mathlib.Core.Bool.{Bool, not, _&&_, _||_}
 use mathlib.Core.List.{List, [], _∷_}
 use Prim.Native.Nat.{ℕ, _+_, _*_, _%_}
 use lib.Dec.{eqb, ltb, leb}
-use Rattle.lists.specs.Any.{any, anyTwo}
+use Rattle.lists.specs.Any.{any, anyTwo, anyOf}
 use Rattle.bits.specs.Cell.{within}
 use Rattle.cells.specs.Cells.{flagOf}
 use Rattle.sleep.specs.Pairs.{sleepRefused}
@@ -39,23 +39,44 @@ unfoldable pub justOneZero : Block → Bool
 justOneZero b = (eqb (b .address) 0 && not (eqb (b .length) 0)) || (not (eqb (b .address) 0) && eqb (b .length) 0)
 
 -- 6: "a present block's length is not allowed, or just one of address and length is zero for PM2, timer or GPE"
+abbrev pub lengthTests : Settings → List Bool
+lengthTests s =
+    wrongLength 4 (s .«pm1a_evt») ∷
+    wrongLength 4 (s .«pm1b_evt») ∷
+    wrongLength 2 (s .«pm1a_cnt») ∷
+    wrongLength 2 (s .«pm1b_cnt») ∷
+    wrongLength 1 (s .«pm2_cnt») ∷
+    wrongLength 4 (s .«pm_tmr») ∷
+    wrongGpeLength (s .gpe0) ∷
+    wrongGpeLength (s .gpe1) ∷
+    justOneZero (s .«pm2_cnt») ∷
+    justOneZero (s .«pm_tmr») ∷
+    justOneZero (s .gpe0) ∷
+    justOneZero (s .gpe1) ∷
+    []
+
 unfoldable pub lengthRefused : Settings → Bool
-lengthRefused s =
-    wrongLength 4 (s .«pm1a_evt») || wrongLength 4 (s .«pm1b_evt») || wrongLength 2 (s .«pm1a_cnt») || wrongLength 2 (s .«pm1b_cnt») ||
-    wrongLength 1 (s .«pm2_cnt») || wrongLength 4 (s .«pm_tmr») || wrongGpeLength (s .gpe0) || wrongGpeLength (s .gpe1) ||
-    justOneZero (s .«pm2_cnt») || justOneZero (s .«pm_tmr») || justOneZero (s .gpe0) || justOneZero (s .gpe1)
+lengthRefused s = anyOf (lengthTests s)
 
 -- "PM1 event and timer addresses are multiples of 4, PM1 control addresses of 2"
 unfoldable pub misaligned : ℕ → Block → Bool
 misaligned n b = not (eqb (b .address % n) 0)
 
 -- 7: "PM1a event or control is absent, an address is misaligned, or a block or SMI_CMD passes port 65,535"
+abbrev pub placeTests : Settings → List Bool
+placeTests s =
+    not (present (s .«pm1a_evt»)) ∷
+    not (present (s .«pm1a_cnt»)) ∷
+    misaligned 4 (s .«pm1a_evt») ∷
+    misaligned 4 (s .«pm1b_evt») ∷
+    misaligned 4 (s .«pm_tmr») ∷
+    misaligned 2 (s .«pm1a_cnt») ∷
+    misaligned 2 (s .«pm1b_cnt») ∷
+    any passesPorts (blocksOf s) ∷
+    []
+
 unfoldable pub placeRefused : Settings → Bool
-placeRefused s =
-    not (present (s .«pm1a_evt»)) || not (present (s .«pm1a_cnt»)) ||
-    misaligned 4 (s .«pm1a_evt») || misaligned 4 (s .«pm1b_evt») || misaligned 4 (s .«pm_tmr») ||
-    misaligned 2 (s .«pm1a_cnt») || misaligned 2 (s .«pm1b_cnt») ||
-    any passesPorts (blocksOf s)
+placeRefused s = anyOf (placeTests s)
 
 -- 8: "two present blocks overlap (SMI_CMD, if nonzero, is a one-byte block)"
 unfoldable pub overlapRefused : Settings → Bool
@@ -78,10 +99,16 @@ unfoldable pub homeless : Block → ℕ → Bool
 homeless b homes = not (present b) && not (eqb homes 0)
 
 -- 11: "event homes have a bit outside C731 hex, control homes outside 0007, or any bit where that B block is absent"
+abbrev pub homeTests : Settings → List Bool
+homeTests s =
+    not (within 0xC731 (s .«event_homes»)) ∷
+    not (within 0x0007 (s .«control_homes»)) ∷
+    homeless (s .«pm1b_evt») (s .«event_homes») ∷
+    homeless (s .«pm1b_cnt») (s .«control_homes») ∷
+    []
+
 unfoldable pub homesRefused : Settings → Bool
-homesRefused s =
-    not (within 0xC731 (s .«event_homes»)) || not (within 0x0007 (s .«control_homes»)) ||
-    homeless (s .«pm1b_evt») (s .«event_homes») || homeless (s .«pm1b_cnt») (s .«control_homes»)
+homesRefused s = anyOf (homeTests s)
 
 -- 12: "an a or b exceeds 7 (b also without PM1b control), or two present states share their pair (only a counts when PM1b control is absent)"
 unfoldable pub sleepPairsRefused : Settings → Bool

@@ -7,8 +7,7 @@ use native.Mathlib.Omega.{arith}
 use lib.ListN.{length, drop}
 use Rattle.lists.specs.Any.{anyTwo}
 use Rattle.lists.proofs.Search.{any-two-turn, any-two-end}
-use Rattle.platform.specs.Blocks.{overlap}
-use Rattle.platform.proofs.Ports.{no-block}
+use Rattle.platform.specs.Blocks.{noBlock, overlap}
 use Rattle.platform.proofs.rules.any_overlap.Statement.{statement}
 use Rattle.platform.proofs.rules.any_overlap.Tie as tie
 
@@ -37,7 +36,7 @@ returns : tie.Need-returns Inv-loop μ-loop
 returns c =
     let at : _ = c .before .before .before .before in
     let h : at .loop .i < length (at .before .args .t1) = omega arith in
-    rw (← at .loop .inv, any-two-turn no-block overlap _ _ h, ← c .before .overlaps-later .ensures, c .if1 .taken)
+    rw (← at .loop .inv, any-two-turn noBlock overlap _ _ h, ← c .before .overlaps-later .ensures, c .if1 .taken)
 
 add-i : tie.Need-add-i Inv-loop μ-loop
 add-i c = omega arith
@@ -49,13 +48,13 @@ loop-again : tie.Need-loop-again Inv-loop μ-loop
 loop-again c =
     let at : _ = c .before .before .before .before in
     let h : at .loop .i < length (at .before .args .t1) = omega arith in
-    rw (← at .loop .inv, any-two-turn no-block overlap _ _ h, ← c .before .overlaps-later .ensures, c .if1 .left)
+    rw (← at .loop .inv, any-two-turn noBlock overlap _ _ h, ← c .before .overlaps-later .ensures, c .if1 .left)
 
 returns-2 : tie.Need-returns-2 Inv-loop μ-loop
 returns-2 c =
     let at : _ = c .before in
     let h : length (at .before .args .t1) ≤ at .loop .i = omega arith in
-    rw (← at .loop .inv, any-two-end no-block overlap _ _ h)
+    rw (← at .loop .inv, any-two-end noBlock overlap _ _ h)
 
 pub any-overlap-spec : {M : Type 1} → statement M
 any-overlap-spec =

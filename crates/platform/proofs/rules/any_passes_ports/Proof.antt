@@ -7,8 +7,7 @@ use native.Mathlib.Omega.{arith}
 use lib.ListN.{length, drop}
 use Rattle.lists.specs.Any.{any}
 use Rattle.lists.proofs.Search.{any-turn, any-end}
-use Rattle.platform.specs.Blocks.{passesPorts}
-use Rattle.platform.proofs.Ports.{no-block}
+use Rattle.platform.specs.Blocks.{noBlock, passesPorts}
 use Rattle.platform.proofs.rules.any_passes_ports.Statement.{statement}
 use Rattle.platform.proofs.rules.any_passes_ports.Tie as tie
 
@@ -34,7 +33,7 @@ returns : tie.Need-returns Inv-loop μ-loop
 returns c =
     let at : _ = c .before .before .before .before in
     let h : at .loop .i < length (at .before .args .t1) = omega arith in
-    rw (← at .loop .inv, any-turn no-block passesPorts _ _ h, ← c .before .passes-ports .ensures, c .if1 .taken)
+    rw (← at .loop .inv, any-turn noBlock passesPorts _ _ h, ← c .before .passes-ports .ensures, c .if1 .taken)
 
 add-i : tie.Need-add-i Inv-loop μ-loop
 add-i c = omega arith
@@ -46,13 +45,13 @@ loop-again : tie.Need-loop-again Inv-loop μ-loop
 loop-again c =
     let at : _ = c .before .before .before .before in
     let h : at .loop .i < length (at .before .args .t1) = omega arith in
-    rw (← at .loop .inv, any-turn no-block passesPorts _ _ h, ← c .before .passes-ports .ensures, c .if1 .left)
+    rw (← at .loop .inv, any-turn noBlock passesPorts _ _ h, ← c .before .passes-ports .ensures, c .if1 .left)
 
 returns-2 : tie.Need-returns-2 Inv-loop μ-loop
 returns-2 c =
     let at : _ = c .before in
     let h : length (at .before .args .t1) ≤ at .loop .i = omega arith in
-    rw (← at .loop .inv, any-end no-block passesPorts _ _ h)
+    rw (← at .loop .inv, any-end noBlock passesPorts _ _ h)
 
 pub any-passes-ports-spec : {M : Type 1} → statement M
 any-passes-ports-spec =

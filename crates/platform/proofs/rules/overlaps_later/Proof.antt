@@ -7,8 +7,7 @@ use native.Mathlib.Omega.{arith}
 use lib.ListN.{length, drop}
 use Rattle.lists.specs.Any.{any}
 use Rattle.lists.proofs.Search.{any-turn, any-end}
-use Rattle.platform.specs.Blocks.{overlap}
-use Rattle.platform.proofs.Ports.{no-block}
+use Rattle.platform.specs.Blocks.{noBlock, overlap}
 use Rattle.platform.proofs.rules.overlaps_later.Statement.{statement}
 use Rattle.platform.proofs.rules.overlaps_later.Tie as tie
 
@@ -34,7 +33,7 @@ returns : tie.Need-returns Inv-loop μ-loop
 returns c =
     let at : _ = c .before .before .before .before in
     let h : at .loop .j < length (at .before .args .t2) = omega arith in
-    rw (← at .loop .inv, any-turn no-block (overlap (at .before .args .b)) _ _ h, ← c .before .overlaps .ensures, c .if1 .taken)
+    rw (← at .loop .inv, any-turn noBlock (overlap (at .before .args .b)) _ _ h, ← c .before .overlaps .ensures, c .if1 .taken)
 
 add-j : tie.Need-add-j Inv-loop μ-loop
 add-j c = omega arith
@@ -46,13 +45,13 @@ loop-again : tie.Need-loop-again Inv-loop μ-loop
 loop-again c =
     let at : _ = c .before .before .before .before in
     let h : at .loop .j < length (at .before .args .t2) = omega arith in
-    rw (← at .loop .inv, any-turn no-block (overlap (at .before .args .b)) _ _ h, ← c .before .overlaps .ensures, c .if1 .left)
+    rw (← at .loop .inv, any-turn noBlock (overlap (at .before .args .b)) _ _ h, ← c .before .overlaps .ensures, c .if1 .left)
 
 returns-2 : tie.Need-returns-2 Inv-loop μ-loop
 returns-2 c =
     let at : _ = c .before in
     let h : length (at .before .args .t2) ≤ at .loop .j = omega arith in
-    rw (← at .loop .inv, any-end no-block (overlap (at .before .args .b)) _ _ h)
+    rw (← at .loop .inv, any-end noBlock (overlap (at .before .args .b)) _ _ h)
 
 pub overlaps-later-spec : {M : Type 1} → statement M
 overlaps-later-spec =

@@ -1,0 +1,43 @@
+-- What setting up gives. Success: the power-on machine of the settings read, which pass lines 5 to 12. Refusal: a machine all zero.
+-- An answer of 0 means that no line refuses. Assumes nothing.
+use mathlib.Core.Bool.{Bool, true, false}
+use mathlib.Core.List.{List}
+use mathlib.Core.Path.{_≡_, refl}
+use Prim.Native.Nat.{ℕ}
+use borrow.Author.Tests.{ne-eqb}
+use Rattle.lists.specs.Any.{any}
+use Rattle.lists.proofs.Search.{any-drop}
+use Rattle.platform.specs.Answer.{answerNumber, firstFailing}
+use Rattle.platform.specs.Legal.{legalSettings, Guaranteed}
+use Rattle.platform.specs.Rules.{settingsRules}
+use Rattle.platform.specs.declared.settings.Settings.{Settings}
+use Rattle.platform.specs.declared.rules.SetUpAnswer.the-variants as answer
+use Rattle.platform.proofs.Legal.{allRefuse, done-passes, settings-legal, legal-guaranteed}
+use Rattle.fadt.specs.Table.{setUpRules}
+use Rattle.machine.specs.PowerOn.{powerOn, allZero}
+use Rattle.machine.specs.SetUp.{machineFor, setUpFrom}
+
+module _ (t : List ℕ) (s : Settings) where
+  lines-refuse : allRefuse (setUpRules t s)
+  unfolding any
+  lines-refuse = refl
+
+  -- no line of the table refuses
+  pub accepted-passes : setUpFrom t s .answer ≡ answer.Done → any (λ r. r .refused) (setUpRules t s) ≡ false
+  accepted-passes e = done-passes (setUpRules t s) lines-refuse e
+
+  pub accepted-machine : setUpFrom t s .answer ≡ answer.Done → setUpFrom t s .machine ≡ powerOn s
+  unfolding machineFor
+  accepted-machine e = rw e refl
+
+  pub accepted-legal : setUpFrom t s .answer ≡ answer.Done → legalSettings s ≡ true
+  unfolding any
+  accepted-legal e = settings-legal s (any-drop (λ r. r .refused) (setUpRules t s) 4 (accepted-passes e))
+
+  pub accepted-guaranteed : setUpFrom t s .answer ≡ answer.Done → Guaranteed s
+  accepted-guaranteed e = legal-guaranteed s (accepted-legal e)
+
+  -- "any refusal to make one gives it all zero"
+  pub refused-machine : (answerNumber (setUpFrom t s .answer) ≡ 0 → ⊥) → setUpFrom t s .machine ≡ allZero
+  unfolding machineFor
+  refused-machine n = rw (ne-eqb _ _ n) refl

@@ -1,0 +1,218 @@
+-- Settings that pass lines 5 to 12 are as `Guaranteed` says, and an answer of 0 means that the lines pass.
+-- Each line is an or of tests: none refuses, so each test is false, and a false test says the opposite of what it looks for.
+-- Assumes nothing.
+use mathlib.Core.Bool.{Bool, true, false, not, _&&_, _||_, or-true}
+use mathlib.Core.List.{List, [], _∷_}
+use mathlib.Core.Path.{_≡_, refl, sym, _∙_, ap}
+use Prim.Native.Nat.{ℕ, _+_, _-_, _%_, _≤_, _<_}
+use native.Mathlib.Omega.{arith}
+use borrow.Author.Tests.{ltb-true, ltb-false, leb-true, eqb-true, eqb-false, lt-ltb, le-leb, eq-eqb, ne-eqb, not-true, not-false}
+use lib.Dec.{eqb, ltb, leb, lit<}
+use lib.ListN.{length, getD}
+use Rattle.lists.specs.Any.{any}
+use Rattle.lists.proofs.Search.{any-none, any-two-none, any-of-none}
+use Rattle.lists.proofs.Tests.{or-left, or-right, and-left, and-right, and-other}
+use Rattle.bits.proofs.Cells.{within-masked}
+use Rattle.bits.proofs.Digits.{below-or-beyond}
+use Rattle.cells.specs.Cells.{flagOf}
+use Rattle.sleep.specs.Pairs.{outOfRange, shared, sleepRefused}
+use Rattle.platform.specs.Answer.{Rule, answerNumber, firstFailing}
+use Rattle.platform.specs.Blocks.{present, holds, overlap, passesPorts, noBlock}
+use Rattle.platform.specs.Rules.{blocksOf, events, hardwareReduced, wrongLength, wrongGpeLength, justOneZero, lengthTests, lengthRefused, misaligned, placeTests, placeRefused, overlapRefused, gpeRefused, commandsRefused, homeless, homeTests, homesRefused, sleepPairsRefused, settingsRules}
+use Rattle.platform.specs.Legal.{legalSettings, HasLength, HasGpeLength, HasNone, blockAt, Guaranteed}
+use Rattle.platform.specs.declared.block.Block.{Block}
+use Rattle.platform.specs.declared.settings.Settings.{Settings}
+use Rattle.platform.specs.declared.rules.SetUpAnswer.the-variants as answer
+
+-- ---- the answer and the lines
+
+-- what an index past the table would read
+abbrev passed : Rule
+passed = record { answer = answer.Done; refused = false }
+
+-- no line answers 0
+abbrev pub allRefuse : List Rule → Type 0
+allRefuse rs = any (λ r. eqb (answerNumber (r .answer)) 0) rs ≡ false
+
+line-passes : (r : Rule) (rs : List Rule) → eqb (answerNumber (r .answer)) 0 ≡ false → (firstFailing rs ≡ answer.Done → any (λ r. r .refused) rs ≡ false)
+    → firstFailing (r ∷ rs) ≡ answer.Done → (t : Bool) → r .refused ≡ t → any (λ r. r .refused) (r ∷ rs) ≡ false
+unfolding any firstFailing
+line-passes r rs n more e true p =
+    let d : r .answer ≡ answer.Done = rw p at e in
+    let z : eqb (answerNumber (r .answer)) 0 ≡ true = rw d refl in
+    cc
+line-passes r rs n more e false p = rw p (more (rw p at e))
+
+-- an answer of 0: no line refuses
+pub done-passes : (rs : List Rule) → allRefuse rs → firstFailing rs ≡ answer.Done → any (λ r. r .refused) rs ≡ false
+unfolding any
+done-passes [] n e = refl
+done-passes (r ∷ rs) n e =
+    line-passes r rs (or-left _ _ n) (done-passes rs (or-right (eqb (answerNumber (r .answer)) 0) _ n)) e (r .refused) refl
+
+pub settings-legal : (s : Settings) → any (λ r. r .refused) (settingsRules s) ≡ false → legalSettings s ≡ true
+unfolding legalSettings
+settings-legal s e = rw e refl
+
+-- ---- what a test that failed tells
+
+length-is : (n : ℕ) (b : Block) → wrongLength n b ≡ false → HasLength n b
+unfolding wrongLength
+length-is n b e h = eqb-true (b .length) n (not-false (eqb (b .length) n) (and-other (present b) (not (eqb (b .length) n)) e h))
+
+gpe-length-is : (b : Block) → wrongGpeLength b ≡ false → HasGpeLength b
+unfolding wrongGpeLength
+gpe-length-is b e h =
+    let even = eqb (b .length % 2) 0 in
+    let low = leb 2 (b .length) in
+    let high = leb (b .length) 16 in
+    let all : (even && (low && high)) ≡ true = not-false (even && (low && high)) (and-other (present b) (not (even && (low && high))) e h) in
+    let two : (low && high) ≡ true = and-right even (low && high) all in
+    (eqb-true _ _ (and-left even (low && high) all), leb-true _ _ (and-left low high two), leb-true _ _ (and-right low high two))
+
+none-is : (b : Block) → justOneZero b ≡ false → HasNone b
+unfolding justOneZero present
+none-is b e h =
+    let one = not (eqb (b .length) 0) in
+    let no-address = eqb (b .address) 0 in
+    eqb-true (b .length) 0 (not-false (eqb (b .length) 0) (and-other no-address one (or-left (no-address && one) (not no-address && eqb (b .length) 0) e) (not-false no-address h)))
+
+aligned : (n : ℕ) (b : Block) → misaligned n b ≡ false → b .address % n ≡ 0
+unfolding misaligned
+aligned n b e = eqb-true (b .address % n) 0 (not-false (eqb (b .address % n) 0) e)
+
+within-port-space : (b : Block) → passesPorts b ≡ false → b .address + b .length ≤ 65536
+unfolding passesPorts
+within-port-space b e = ltb-false 65536 (b .address + b .length) e
+
+home-is : (b : Block) (homes : ℕ) → homeless b homes ≡ false → present b ≡ false → homes ≡ 0
+unfolding homeless
+home-is b homes e h = eqb-true homes 0 (not-false (eqb homes 0) (and-other (not (present b)) (not (eqb homes 0)) e (ap not h)))
+
+-- the block's ports
+holds-from : (b : Block) (port : ℕ) → holds b port ≡ true → (present b ≡ true) × (b .address ≤ port) × (port < b .address + b .length)
+unfolding holds
+holds-from b port e =
+    let at-least = leb (b .address) port in
+    let inside = ltb (port - b .address) (b .length) in
+    let two : (at-least && inside) ≡ true = and-right (present b) (at-least && inside) e in
+    let low : b .address ≤ port = leb-true _ _ (and-left at-least inside two) in
+    let high : port - b .address < b .length = ltb-true _ _ (and-right at-least inside two) in
+    (and-left (present b) (at-least && inside) e, low, omega arith)
+
+holds-of : (b : Block) (port : ℕ) → present b ≡ true → b .address ≤ port → port < b .address + b .length → holds b port ≡ true
+unfolding holds
+holds-of b port p low high =
+    let inside : port - b .address < b .length = omega arith in
+    rw (p, le-leb _ _ low, lt-ltb _ _ inside) refl
+
+-- ---- one block to a port
+
+overlap-by : (a b : Block) → present a ≡ true → present b ≡ true → (holds a (b .address) || holds b (a .address)) ≡ true → overlap a b ≡ true
+unfolding overlap
+overlap-by a b p q e = rw (p, q) e
+
+shared-port-overlaps : (a b : Block) (port : ℕ) → holds a port ≡ true → holds b port ≡ true → overlap a b ≡ true
+shared-port-overlaps a b port ha hb =
+    let (pa, la, ua) = holds-from a port ha in
+    let (pb, lb, ub) = holds-from b port hb in
+    overlap-by a b pa pb
+    (below-or-beyond (b .address) (a .address)
+    (λ h. rw (holds-of b (a .address) pb (omega arith) (omega arith)) (or-true (holds a (b .address))))
+    (λ h. rw (holds-of a (b .address) pa h (omega arith)) refl))
+
+module _ (s : Settings) (e : overlapRefused s ≡ false) (port : ℕ) where
+  apart : (i j : ℕ) → i < j → j < 9 → holds (blockAt s i) port ≡ true → holds (blockAt s j) port ≡ true → ⊥
+  unfolding overlapRefused
+  apart i j h k hi hj =
+      let no : overlap (blockAt s i) (blockAt s j) ≡ false = any-two-none noBlock overlap (blocksOf s) e i j h k in
+      let yes : overlap (blockAt s i) (blockAt s j) ≡ true = shared-port-overlaps (blockAt s i) (blockAt s j) port hi hj in
+      let z : _≡_ {A = ℕ} 0 1 = cc in
+      omega arith
+
+  same-block : (i j : ℕ) → i < 9 → j < 9 → holds (blockAt s i) port ≡ true → holds (blockAt s j) port ≡ true → i ≡ j
+  same-block i j i< j< hi hj =
+      below-or-beyond i j (λ h. absurd (apart i j h j< hi hj))
+      (λ h. below-or-beyond j i (λ k. absurd (apart j i k i< hj hi)) (λ k. omega arith))
+
+-- ---- all of it
+
+module _ (s : Settings) (e : any (λ r. r .refused) (settingsRules s) ≡ false) where
+  -- line k + 5 of the table
+  line : (k : ℕ) → k < 8 → getD (settingsRules s) k passed .refused ≡ false
+  line k h = any-none passed (λ r. r .refused) (settingsRules s) e k h
+
+  length-test : (i : ℕ) → i < 12 → getD (lengthTests s) i true ≡ false
+  unfolding lengthRefused
+  length-test = any-of-none (lengthTests s) (line 1 (lit< tt))
+
+  place-test : (i : ℕ) → i < 8 → getD (placeTests s) i true ≡ false
+  unfolding placeRefused
+  place-test = any-of-none (placeTests s) (line 2 (lit< tt))
+
+  home-test : (i : ℕ) → i < 4 → getD (homeTests s) i true ≡ false
+  unfolding homesRefused
+  home-test = any-of-none (homeTests s) (line 6 (lit< tt))
+
+  numbers : present (s .gpe1) ≡ true → (events (s .gpe0) ≤ s .«gpe1_base») × (s .«gpe1_base» + events (s .gpe1) ≤ 256)
+  unfolding gpeRefused
+  numbers h =
+      let low = ltb (s .«gpe1_base») (events (s .gpe0)) in
+      let high = ltb 256 (s .«gpe1_base» + events (s .gpe1)) in
+      let both : (low || high) ≡ false = and-other (present (s .gpe1)) (low || high) (line 4 (lit< tt)) h in
+      (ltb-false _ _ (or-left low high both), ltb-false _ _ (or-right low high both))
+
+  commands : (s .«smi_cmd» ≡ 0 → ⊥) → s .«acpi_enable» ≡ s .«acpi_disable» → ⊥
+  unfolding commandsRefused
+  commands n q =
+      eqb-false (s .«acpi_enable») (s .«acpi_disable»)
+      (and-other (not (eqb (s .«smi_cmd») 0)) (eqb (s .«acpi_enable») (s .«acpi_disable»)) (line 5 (lit< tt)) (ap not (ne-eqb _ _ n))) q
+
+  pairs : sleepRefused (present (s .«pm1b_cnt»)) (s .sleep .pairs) ≡ false
+  unfolding sleepPairsRefused
+  pairs = line 7 (lit< tt)
+
+  reduced : flagOf (s .flags) 20 ≡ false
+  unfolding hardwareReduced
+  reduced = line 0 (lit< tt)
+
+  pub guaranteed : Guaranteed s
+  guaranteed =
+      record {
+        full-hardware = reduced;
+        evt-a-length = length-is 4 _ (length-test 0 (lit< tt));
+        evt-b-length = length-is 4 _ (length-test 1 (lit< tt));
+        cnt-a-length = length-is 2 _ (length-test 2 (lit< tt));
+        cnt-b-length = length-is 2 _ (length-test 3 (lit< tt));
+        pm2-length = length-is 1 _ (length-test 4 (lit< tt));
+        tmr-length = length-is 4 _ (length-test 5 (lit< tt));
+        gpe0-length = gpe-length-is _ (length-test 6 (lit< tt));
+        gpe1-length = gpe-length-is _ (length-test 7 (lit< tt));
+        pm2-none = none-is _ (length-test 8 (lit< tt));
+        tmr-none = none-is _ (length-test 9 (lit< tt));
+        gpe0-none = none-is _ (length-test 10 (lit< tt));
+        gpe1-none = none-is _ (length-test 11 (lit< tt));
+        evt-a-present = not-false _ (place-test 0 (lit< tt));
+        cnt-a-present = not-false _ (place-test 1 (lit< tt));
+        evt-a-aligned = aligned 4 _ (place-test 2 (lit< tt));
+        evt-b-aligned = aligned 4 _ (place-test 3 (lit< tt));
+        tmr-aligned = aligned 4 _ (place-test 4 (lit< tt));
+        cnt-a-aligned = aligned 2 _ (place-test 5 (lit< tt));
+        cnt-b-aligned = aligned 2 _ (place-test 6 (lit< tt));
+        within-ports = λ i h. within-port-space (blockAt s i) (any-none noBlock passesPorts (blocksOf s) (place-test 7 (lit< tt)) i h);
+        one-block = same-block s (line 3 (lit< tt));
+        gpe1-above-gpe0 = λ h. numbers h .0;
+        gpe1-numbers = λ h. numbers h .1;
+        commands-differ = commands;
+        event-homes = within-masked 0xC731 _ (not-false _ (home-test 0 (lit< tt)));
+        control-homes = within-masked 0x0007 _ (not-false _ (home-test 1 (lit< tt)));
+        event-homes-in-b = home-is _ _ (home-test 2 (lit< tt));
+        control-homes-in-b = home-is _ _ (home-test 3 (lit< tt));
+        pair-range = any-none [] outOfRange (s .sleep .pairs) (or-left _ _ pairs);
+        pairs-differ = any-two-none [] (shared (present (s .«pm1b_cnt»))) (s .sleep .pairs) (or-right (any outOfRange (s .sleep .pairs)) _ pairs)
+      }
+
+-- the test's meaning
+pub legal-guaranteed : (s : Settings) → legalSettings s ≡ true → Guaranteed s
+unfolding legalSettings
+legal-guaranteed s e = guaranteed s (not-true _ e)

@@ -1,0 +1,69 @@
+-- What an accepted set-up guarantees of the settings: a test, and what it means.
+use mathlib.Core.Bool.{Bool, true, false, not}
+use mathlib.Core.List.{[]}
+use mathlib.Core.Path.{_≡_}
+use Prim.Native.Nat.{ℕ, _+_, _%_, _≤_, _<_}
+use lib.Bits.{bitAnd}
+use lib.ListN.{length, getD}
+use Rattle.lists.specs.Any.{any}
+use Rattle.cells.specs.Cells.{flagOf}
+use Rattle.sleep.specs.Pairs.{outOfRange, shared}
+use Rattle.platform.specs.Blocks.{present, holds, noBlock}
+use Rattle.platform.specs.Rules.{blocksOf, events, settingsRules}
+use Rattle.platform.specs.declared.block.Block.{Block}
+use Rattle.platform.specs.declared.settings.Settings.{Settings}
+
+-- none of lines 5 to 12 refuses
+unfoldable pub legalSettings : Settings → Bool
+legalSettings s = not (any (λ r. r .refused) (settingsRules s))
+
+-- where the block is present it has this length
+abbrev pub HasLength : ℕ → Block → Type 0
+HasLength n b = present b ≡ true → b .length ≡ n
+
+-- .. as a GPE block: "even and 2 to 16"
+abbrev pub HasGpeLength : Block → Type 0
+HasGpeLength b = present b ≡ true → (b .length % 2 ≡ 0) × (2 ≤ b .length) × (b .length ≤ 16)
+
+-- where it is absent it has no length
+abbrev pub HasNone : Block → Type 0
+HasNone b = present b ≡ false → b .length ≡ 0
+
+-- the blocks by their place in the FADT's order, SMI_CMD being 0
+abbrev pub blockAt : Settings → ℕ → Block
+blockAt s i = getD (blocksOf s) i noBlock
+
+pub record Guaranteed (s : Settings) : Type 0 where
+  pub full-hardware : flagOf (s .flags) 20 ≡ false
+  pub evt-a-length : HasLength 4 (s .«pm1a_evt»)
+  pub evt-b-length : HasLength 4 (s .«pm1b_evt»)
+  pub cnt-a-length : HasLength 2 (s .«pm1a_cnt»)
+  pub cnt-b-length : HasLength 2 (s .«pm1b_cnt»)
+  pub pm2-length : HasLength 1 (s .«pm2_cnt»)
+  pub tmr-length : HasLength 4 (s .«pm_tmr»)
+  pub gpe0-length : HasGpeLength (s .gpe0)
+  pub gpe1-length : HasGpeLength (s .gpe1)
+  pub pm2-none : HasNone (s .«pm2_cnt»)
+  pub tmr-none : HasNone (s .«pm_tmr»)
+  pub gpe0-none : HasNone (s .gpe0)
+  pub gpe1-none : HasNone (s .gpe1)
+  pub evt-a-present : present (s .«pm1a_evt») ≡ true
+  pub cnt-a-present : present (s .«pm1a_cnt») ≡ true
+  pub evt-a-aligned : s .«pm1a_evt» .address % 4 ≡ 0
+  pub evt-b-aligned : s .«pm1b_evt» .address % 4 ≡ 0
+  pub tmr-aligned : s .«pm_tmr» .address % 4 ≡ 0
+  pub cnt-a-aligned : s .«pm1a_cnt» .address % 2 ≡ 0
+  pub cnt-b-aligned : s .«pm1b_cnt» .address % 2 ≡ 0
+  pub within-ports : (i : ℕ) → i < 9 → blockAt s i .address + blockAt s i .length ≤ 65536
+  -- a port inside a present block belongs to that block alone
+  pub one-block : (port i j : ℕ) → i < 9 → j < 9 → holds (blockAt s i) port ≡ true → holds (blockAt s j) port ≡ true → i ≡ j
+  pub gpe1-above-gpe0 : present (s .gpe1) ≡ true → events (s .gpe0) ≤ s .«gpe1_base»
+  pub gpe1-numbers : present (s .gpe1) ≡ true → s .«gpe1_base» + events (s .gpe1) ≤ 256
+  pub commands-differ : (s .«smi_cmd» ≡ 0 → ⊥) → s .«acpi_enable» ≡ s .«acpi_disable» → ⊥
+  pub event-homes : bitAnd (s .«event_homes») 0xC731 ≡ s .«event_homes»
+  pub control-homes : bitAnd (s .«control_homes») 0x0007 ≡ s .«control_homes»
+  pub event-homes-in-b : present (s .«pm1b_evt») ≡ false → s .«event_homes» ≡ 0
+  pub control-homes-in-b : present (s .«pm1b_cnt») ≡ false → s .«control_homes» ≡ 0
+  pub pair-range : (i : ℕ) → i < length (s .sleep .pairs) → outOfRange (getD (s .sleep .pairs) i []) ≡ false
+  pub pairs-differ : (i j : ℕ) → i < j → j < length (s .sleep .pairs)
+      → shared (present (s .«pm1b_cnt»)) (getD (s .sleep .pairs) i []) (getD (s .sleep .pairs) j []) ≡ false
