@@ -88,13 +88,13 @@ const CELLS: [Cell; 8] = [
 
 // Whose bits a mask holds.
 pub enum Column {
-    // the eight of the table
+    // the eight of the table, fitted or not: C731 hex
     Known,
     // the fitted status cells
     Status,
     // the fitted enable cells, bit 14's disable too
     Enable,
-    // those that raise SCI or SMI
+    // those that raise SCI or SMI, fitted or not: 0721 hex
     Event,
 }
 

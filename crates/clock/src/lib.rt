@@ -81,7 +81,7 @@ fn hold_after(down: bool, hold: u32, n: u32) -> u32
     }
 }
 
-// n ticks of the counter of 32 bits (wide) or 24, with the button down or not, and the override fitted or not.
+// n ticks: wide is flag 8, TMR_VAL_EXT; down, the power button is down; fitted, the power override is fitted.
 pub fn ticks(wide: bool, down: bool, fitted: bool, counter: u32, hold: u32, n: u32) -> Clock
     ensures { λ r. ⌜ r ≡ ticksOf wide down fitted n (startOf counter hold) ⌝ }
 {

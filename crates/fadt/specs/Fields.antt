@@ -24,7 +24,7 @@ blockOf t address length = record { address = dword t address; length = byte t l
 abbrev pub pm1Block : List ℕ → ℕ → ℕ → Block
 pm1Block t address length = record { address = dword t address; length = cond (not (eqb (dword t address) 0)) (byte t length) 0 }
 
--- "Given: FADT bytes; event homes and control homes; whether the power override is fitted; for each of S0 to S5, absent or a pair (a, b)"
+-- "Given: FADT bytes; event homes and control homes ..; whether the power override is fitted; for each of S0 to S5, absent or a pair (a, b)"
 abbrev pub settingsOf : List ℕ → ℕ → ℕ → Bool → List (List ℕ) → Settings
 settingsOf t event-homes control-homes power-override pairs =
     record {

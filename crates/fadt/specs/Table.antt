@@ -32,9 +32,10 @@ abbrev pub tableLength : List ℕ → ℕ
 tableLength t = dword t 4
 
 -- 3: "the length field is below 116 or above the bytes lent"
-unfoldable pub wrongLength : List ℕ → Bool
-wrongLength t = ltb (tableLength t) 116 || ltb (length t) (tableLength t)
+unfoldable pub wrongTableLength : List ℕ → Bool
+wrongTableLength t = ltb (tableLength t) 116 || ltb (length t) (tableLength t)
 
+-- the bytes added up
 abbrev pub sum : List ℕ → ℕ
 sum [] = 0
 sum (x ∷ xs) = x + sum xs
@@ -48,6 +49,6 @@ abbrev pub setUpRules : List ℕ → Settings → List Rule
 setUpRules t s =
     answer.TableShort when tableShort t ∷
     answer.NoSignature when noSignature t ∷
-    answer.WrongLength when wrongLength t ∷
+    answer.WrongLength when wrongTableLength t ∷
     answer.WrongSum when wrongSum t ∷
     settingsRules s

@@ -12,7 +12,7 @@ ghost use Rattle.fadt.specs.Table.{
   sum,
   tableShort,
   noSignature,
-  wrongLength,
+  wrongTableLength,
   wrongSum,
   setUpRules,
 };
@@ -20,7 +20,7 @@ ghost use Rattle.fadt.specs.Fields.{dword, blockOf, pm1Block, settingsOf
 
 const SIGNATURE: [u8; 4] = *b"FACP";
 
-// Lines 1 to 12 of the table: the first that refuses.
+// Lines 1 to 12 of the table: the first that refuses these bytes or these settings, wherever the settings come from.
 pub fn judge(table: &[u8], s: Settings) -> SetUpAnswer
     ensures { λ r. ⌜ r ≡ firstFailing (setUpRules (now (table .entry)) s) ⌝ }
 {
@@ -120,7 +120,7 @@ fn no_signature(table: &[u8]) -> bool
 }
 
 fn wrong_length(table: &[u8]) -> bool
-    ensures { λ r. ⌜ r ≡ wrongLength (now (table .entry)) ⌝ }
+    ensures { λ r. ⌜ r ≡ wrongTableLength (now (table .entry)) ⌝ }
 {
     let n = dword_at(table, 4) as usize;
     (n < 116) | (table.len() < n)

@@ -12,11 +12,12 @@ unfoldable pub anyTwo : {A : Type 0} → (A → A → Bool) → List A → Bool
 anyTwo f [] = false
 anyTwo f (x ∷ xs) = any (f x) xs || anyTwo f xs
 
--- some test of the list is true; joined from the left, as `a | b | c` is
+-- a test or one of the list, joined from the left, as `a | b | c` is
 abbrev pub joined : Bool → List Bool → Bool
 joined t [] = t
 joined t (u ∷ us) = joined (t || u) us
 
+-- some test of the list is true
 abbrev pub anyOf : List Bool → Bool
 anyOf [] = false
 anyOf (t ∷ ts) = joined t ts

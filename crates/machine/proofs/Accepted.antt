@@ -8,14 +8,15 @@ use borrow.Author.Tests.{ne-eqb}
 use Rattle.lists.specs.Any.{any}
 use Rattle.lists.proofs.Search.{any-drop}
 use Rattle.platform.specs.Answer.{answerNumber, firstFailing}
-use Rattle.platform.specs.Legal.{legalSettings, Guaranteed}
-use Rattle.platform.specs.Rules.{settingsRules}
+use Rattle.platform.specs.Blocks.{present}
+use Rattle.platform.specs.Legal.{legalSettings, HasNone, Guaranteed}
 use Rattle.platform.specs.declared.settings.Settings.{Settings}
 use Rattle.platform.specs.declared.rules.SetUpAnswer.the-variants as answer
 use Rattle.platform.proofs.Legal.{allRefuse, done-passes, settings-legal, legal-guaranteed}
+use Rattle.fadt.specs.Fields.{pm1Block, settingsOf}
 use Rattle.fadt.specs.Table.{setUpRules}
 use Rattle.machine.specs.PowerOn.{powerOn, allZero}
-use Rattle.machine.specs.SetUp.{machineFor, setUpFrom}
+use Rattle.machine.specs.SetUp.{machineFor, setUpFrom, setUpOf}
 
 module _ (t : List ℕ) (s : Settings) where
   lines-refuse : allRefuse (setUpRules t s)
@@ -30,14 +31,25 @@ module _ (t : List ℕ) (s : Settings) where
   unfolding machineFor
   accepted-machine e = rw e refl
 
-  pub accepted-legal : setUpFrom t s .answer ≡ answer.Done → legalSettings s ≡ true
-  unfolding any
-  accepted-legal e = settings-legal s (any-drop (λ r. r .refused) (setUpRules t s) 4 (accepted-passes e))
-
-  pub accepted-guaranteed : setUpFrom t s .answer ≡ answer.Done → Guaranteed s
-  accepted-guaranteed e = legal-guaranteed s (accepted-legal e)
-
   -- "any refusal to make one gives it all zero"
   pub refused-machine : (answerNumber (setUpFrom t s .answer) ≡ 0 → ⊥) → setUpFrom t s .machine ≡ allZero
   unfolding machineFor
   refused-machine n = rw (ne-eqb _ _ n) refl
+
+-- a PM1 block read as absent has no length
+pm1-none : (t : List ℕ) (address length : ℕ) → HasNone (pm1Block t address length)
+unfolding present
+pm1-none t address length h = rw h refl
+
+module _ (t : List ℕ) (event-homes control-homes : ℕ) (power-override : Bool) (pairs : List (List ℕ)) where
+  -- what setting up accepts passes the test of legal settings, and so is as `Guaranteed` says
+  pub accepted-legal : setUpOf t event-homes control-homes power-override pairs .answer ≡ answer.Done
+      → legalSettings (setUpOf t event-homes control-homes power-override pairs .machine .settings) ≡ true
+  accepted-legal e =
+      let s = settingsOf t event-homes control-homes power-override pairs in
+      rw (accepted-machine t s e)
+      (settings-legal s (any-drop (λ r. r .refused) (setUpRules t s) 4 (accepted-passes t s e)) (pm1-none t 60 88) (pm1-none t 68 89))
+
+  pub accepted-guaranteed : setUpOf t event-homes control-homes power-override pairs .answer ≡ answer.Done
+      → Guaranteed (setUpOf t event-homes control-homes power-override pairs .machine .settings)
+  accepted-guaranteed e = legal-guaranteed _ (accepted-legal e)

@@ -1,17 +1,18 @@
 -- "Power-on: every cell, the counter and hold zero, no release flag, no command, disarmed, state S0, button up, SCI_EN set exactly if SMI_CMD is zero."
 use mathlib.Core.Bool.{Bool, true, false}
 use mathlib.Core.List.{List, [], _∷_}
-use Prim.Native.Nat.{ℕ}
+use Prim.Native.Nat.{ℕ, _/_}
 use lib.Dec.{eqb}
 use lib.ListN.{replicate}
 use Rattle.sleep.specs.Pairs.{sleepTable}
 use Rattle.platform.specs.Blocks.{noBlock}
+use Rattle.platform.specs.Rules.{gpeLongest}
 use Rattle.platform.specs.declared.settings.Settings.{Settings}
 use Rattle.machine.specs.declared.Machine.{Machine}
 
--- the most status bytes, and the most enable bytes, of a GPE block: "even and 2 to 16", half of them each
+-- "status bytes, then as many enable bytes": the most of each
 abbrev pub gpeBytes : ℕ
-gpeBytes = 8
+gpeBytes = gpeLongest / 2
 
 abbrev pub noBytes : List ℕ
 noBytes = replicate gpeBytes 0
@@ -32,7 +33,7 @@ zeroed s sci-en =
       button = false;
       «command_waits» = false;
       command = 0;
-      release = false;
+      «gbl_rls» = false;
       armed = false;
       «slp_typ_a» = 0;
       «slp_typ_b» = 0;

@@ -5,7 +5,6 @@ use Prim.Native.Nat.{ℕ}
 use lib.Dec.{eqb}
 use Rattle.platform.specs.Answer.{answerNumber, firstFailing}
 use Rattle.platform.specs.declared.settings.Settings.{Settings}
-use Rattle.platform.specs.declared.rules.SetUpAnswer.{SetUpAnswer}
 use Rattle.fadt.specs.Fields.{settingsOf}
 use Rattle.fadt.specs.Table.{setUpRules}
 use Rattle.machine.specs.PowerOn.{powerOn, allZero}
@@ -16,12 +15,14 @@ use Rattle.machine.specs.declared.SetUp.{SetUp}
 unfoldable pub machineFor : ℕ → Settings → Machine
 machineFor number s = cond (eqb number 0) (powerOn s) allZero
 
-abbrev pub setUpWith : SetUpAnswer → Settings → SetUp
-setUpWith a s = record { answer = a; machine = machineFor (answerNumber a) s }
-
--- "The first failing line of this table is the answer": of the bytes lent, and of the settings that they and the host give
+-- "The first failing line of this table is the answer": of the bytes lent, and of the settings
 abbrev pub setUpFrom : List ℕ → Settings → SetUp
-setUpFrom t s = setUpWith (firstFailing (setUpRules t s)) s
+setUpFrom t s =
+    record {
+      answer = firstFailing (setUpRules t s);
+      machine = machineFor (answerNumber (firstFailing (setUpRules t s))) s;
+    }
 
+-- setting up, whole: the settings are those that the bytes and the host give
 abbrev pub setUpOf : List ℕ → ℕ → ℕ → Bool → List (List ℕ) → SetUp
 setUpOf t event-homes control-homes power-override pairs = setUpFrom t (settingsOf t event-homes control-homes power-override pairs)

@@ -24,15 +24,15 @@ pub struct Machine {
     pub gpe1_en: [u8; GPE_BYTES],
     // the PM timer
     pub counter: u32,
-    // ticks that the power button has been down
+    // ticks in S0 with the power button down since the last press, at most 14,318,180
     pub hold: u32,
     // the power button is down
     pub button: bool,
     // whether a command waits for the firmware, and its byte; zero where none waits
     pub command_waits: bool,
     pub command: u8,
-    // the release flag: GBL_RLS was written one
-    pub release: bool,
+    // the release flag
+    pub gbl_rls: bool,
     // SLP_EN was written at A, and B is awaited
     pub armed: bool,
     pub slp_typ_a: u8,
@@ -67,7 +67,7 @@ fn blank(settings: Settings) -> Machine
         button: false,
         command_waits: false,
         command: 0,
-        release: false,
+        gbl_rls: false,
         armed: false,
         slp_typ_a: 0,
         slp_typ_b: 0,

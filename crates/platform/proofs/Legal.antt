@@ -18,8 +18,8 @@ use Rattle.cells.specs.Cells.{flagOf}
 use Rattle.sleep.specs.Pairs.{outOfRange, shared, sleepRefused}
 use Rattle.platform.specs.Answer.{Rule, answerNumber, firstFailing}
 use Rattle.platform.specs.Blocks.{present, holds, overlap, passesPorts, noBlock}
-use Rattle.platform.specs.Rules.{blocksOf, events, hardwareReduced, wrongLength, wrongGpeLength, justOneZero, lengthTests, lengthRefused, misaligned, placeTests, placeRefused, overlapRefused, gpeRefused, commandsRefused, homeless, homeTests, homesRefused, sleepPairsRefused, settingsRules}
-use Rattle.platform.specs.Legal.{legalSettings, HasLength, HasGpeLength, HasNone, blockAt, Guaranteed}
+use Rattle.platform.specs.Rules.{blocksOf, eventCount, hardwareReduced, wrongBlockLength, wrongGpeLength, justOneZero, lengthTests, lengthRefused, misaligned, placeTests, placeRefused, overlapRefused, gpeRefused, commandsRefused, homeless, homeTests, homesRefused, sleepPairsRefused, settingsRules}
+use Rattle.platform.specs.Legal.{strayLength, legalTests, legalSettings, HasLength, HasGpeLength, HasNone, blockAt, Guaranteed}
 use Rattle.platform.specs.declared.block.Block.{Block}
 use Rattle.platform.specs.declared.settings.Settings.{Settings}
 use Rattle.platform.specs.declared.rules.SetUpAnswer.the-variants as answer
@@ -50,14 +50,23 @@ done-passes [] n e = refl
 done-passes (r ∷ rs) n e =
     line-passes r rs (or-left _ _ n) (done-passes rs (or-right (eqb (answerNumber (r .answer)) 0) _ n)) e (r .refused) refl
 
-pub settings-legal : (s : Settings) → any (λ r. r .refused) (settingsRules s) ≡ false → legalSettings s ≡ true
+-- an absent block with no length
+pub none-stray : (b : Block) → HasNone b → strayLength b ≡ false
+unfolding strayLength
+none-stray b h = go (present b) refl
+  where
+    go : (t : Bool) → present b ≡ t → strayLength b ≡ false
+    go true p = rw p refl
+    go false p = rw (p, h p) refl
+
+pub settings-legal : (s : Settings) → any (λ r. r .refused) (settingsRules s) ≡ false → HasNone (s .«pm1b_evt») → HasNone (s .«pm1b_cnt») → legalSettings s ≡ true
 unfolding legalSettings
-settings-legal s e = rw e refl
+settings-legal s e evt cnt = rw (e, none-stray (s .«pm1b_evt») evt, none-stray (s .«pm1b_cnt») cnt) refl
 
 -- ---- what a test that failed tells
 
-length-is : (n : ℕ) (b : Block) → wrongLength n b ≡ false → HasLength n b
-unfolding wrongLength
+length-is : (n : ℕ) (b : Block) → wrongBlockLength n b ≡ false → HasLength n b
+unfolding wrongBlockLength
 length-is n b e h = eqb-true (b .length) n (not-false (eqb (b .length) n) (and-other (present b) (not (eqb (b .length) n)) e h))
 
 gpe-length-is : (b : Block) → wrongGpeLength b ≡ false → HasGpeLength b
@@ -69,6 +78,10 @@ gpe-length-is b e h =
     let all : (even && (low && high)) ≡ true = not-false (even && (low && high)) (and-other (present b) (not (even && (low && high))) e h) in
     let two : (low && high) ≡ true = and-right even (low && high) all in
     (eqb-true _ _ (and-left even (low && high) all), leb-true _ _ (and-left low high two), leb-true _ _ (and-right low high two))
+
+stray-none : (b : Block) → strayLength b ≡ false → HasNone b
+unfolding strayLength
+stray-none b e h = eqb-true (b .length) 0 (not-false (eqb (b .length) 0) (and-other (not (present b)) (not (eqb (b .length) 0)) e (ap not h)))
 
 none-is : (b : Block) → justOneZero b ≡ false → HasNone b
 unfolding justOneZero present
@@ -108,11 +121,14 @@ holds-of b port p low high =
 
 -- ---- one block to a port
 
+zero-one : _≡_ {A = ℕ} 0 1 → ⊥
+zero-one e = omega arith
+
 overlap-by : (a b : Block) → present a ≡ true → present b ≡ true → (holds a (b .address) || holds b (a .address)) ≡ true → overlap a b ≡ true
 unfolding overlap
 overlap-by a b p q e = rw (p, q) e
 
-shared-port-overlaps : (a b : Block) (port : ℕ) → holds a port ≡ true → holds b port ≡ true → overlap a b ≡ true
+pub shared-port-overlaps : (a b : Block) (port : ℕ) → holds a port ≡ true → holds b port ≡ true → overlap a b ≡ true
 shared-port-overlaps a b port ha hb =
     let (pa, la, ua) = holds-from a port ha in
     let (pb, lb, ub) = holds-from b port hb in
@@ -120,6 +136,23 @@ shared-port-overlaps a b port ha hb =
     (below-or-beyond (b .address) (a .address)
     (λ h. rw (holds-of b (a .address) pb (omega arith) (omega arith)) (or-true (holds a (b .address))))
     (λ h. rw (holds-of a (b .address) pa h (omega arith)) refl))
+
+-- .. and where they overlap there is one
+pub overlap-shares-port : (a b : Block) → 0 < a .length → 0 < b .length → overlap a b ≡ true → (port : ℕ) × (holds a port ≡ true) × (holds b port ≡ true)
+unfolding overlap
+overlap-shares-port a b la lb e =
+    let first = holds a (b .address) in
+    let second = holds b (a .address) in
+    let pa : present a ≡ true = and-left (present a) (present b && (first || second)) e in
+    let both : (present b && (first || second)) ≡ true = and-right (present a) (present b && (first || second)) e in
+    let pb : present b ≡ true = and-left (present b) (first || second) both in
+    go pa pb first second refl refl (and-right (present b) (first || second) both)
+  where
+    go : present a ≡ true → present b ≡ true → (t u : Bool) → holds a (b .address) ≡ t → holds b (a .address) ≡ u → (t || u) ≡ true
+        → (port : ℕ) × (holds a port ≡ true) × (holds b port ≡ true)
+    go pa pb true u p q z = (b .address, p, holds-of b (b .address) pb (omega arith) (omega arith))
+    go pa pb false true p q z = (a .address, holds-of a (a .address) pa (omega arith) (omega arith), q)
+    go pa pb false false p q z = let no : _≡_ {A = ℕ} 0 1 = cc in absurd (zero-one no)
 
 module _ (s : Settings) (e : overlapRefused s ≡ false) (port : ℕ) where
   apart : (i j : ℕ) → i < j → j < 9 → holds (blockAt s i) port ≡ true → holds (blockAt s j) port ≡ true → ⊥
@@ -154,11 +187,11 @@ module _ (s : Settings) (e : any (λ r. r .refused) (settingsRules s) ≡ false)
   unfolding homesRefused
   home-test = any-of-none (homeTests s) (line 6 (lit< tt))
 
-  numbers : present (s .gpe1) ≡ true → (events (s .gpe0) ≤ s .«gpe1_base») × (s .«gpe1_base» + events (s .gpe1) ≤ 256)
+  numbers : present (s .gpe1) ≡ true → (eventCount (s .gpe0) ≤ s .«gpe1_base») × (s .«gpe1_base» + eventCount (s .gpe1) ≤ 256)
   unfolding gpeRefused
   numbers h =
-      let low = ltb (s .«gpe1_base») (events (s .gpe0)) in
-      let high = ltb 256 (s .«gpe1_base» + events (s .gpe1)) in
+      let low = ltb (s .«gpe1_base») (eventCount (s .gpe0)) in
+      let high = ltb 256 (s .«gpe1_base» + eventCount (s .gpe1)) in
       let both : (low || high) ≡ false = and-other (present (s .gpe1)) (low || high) (line 4 (lit< tt)) h in
       (ltb-false _ _ (or-left low high both), ltb-false _ _ (or-right low high both))
 
@@ -176,8 +209,8 @@ module _ (s : Settings) (e : any (λ r. r .refused) (settingsRules s) ≡ false)
   unfolding hardwareReduced
   reduced = line 0 (lit< tt)
 
-  pub guaranteed : Guaranteed s
-  guaranteed =
+  guaranteed : strayLength (s .«pm1b_evt») ≡ false → strayLength (s .«pm1b_cnt») ≡ false → Guaranteed s
+  guaranteed evt cnt =
       record {
         full-hardware = reduced;
         evt-a-length = length-is 4 _ (length-test 0 (lit< tt));
@@ -188,6 +221,8 @@ module _ (s : Settings) (e : any (λ r. r .refused) (settingsRules s) ≡ false)
         tmr-length = length-is 4 _ (length-test 5 (lit< tt));
         gpe0-length = gpe-length-is _ (length-test 6 (lit< tt));
         gpe1-length = gpe-length-is _ (length-test 7 (lit< tt));
+        evt-b-none = stray-none _ evt;
+        cnt-b-none = stray-none _ cnt;
         pm2-none = none-is _ (length-test 8 (lit< tt));
         tmr-none = none-is _ (length-test 9 (lit< tt));
         gpe0-none = none-is _ (length-test 10 (lit< tt));
@@ -209,10 +244,12 @@ module _ (s : Settings) (e : any (λ r. r .refused) (settingsRules s) ≡ false)
         event-homes-in-b = home-is _ _ (home-test 2 (lit< tt));
         control-homes-in-b = home-is _ _ (home-test 3 (lit< tt));
         pair-range = any-none [] outOfRange (s .sleep .pairs) (or-left _ _ pairs);
-        pairs-differ = any-two-none [] (shared (present (s .«pm1b_cnt»))) (s .sleep .pairs) (or-right (any outOfRange (s .sleep .pairs)) _ pairs)
+        pairs-differ = any-two-none [] (shared (present (s .«pm1b_cnt»))) (s .sleep .pairs) (or-right (any outOfRange (s .sleep .pairs)) _ pairs);
       }
 
 -- the test's meaning
 pub legal-guaranteed : (s : Settings) → legalSettings s ≡ true → Guaranteed s
 unfolding legalSettings
-legal-guaranteed s e = guaranteed s (not-true _ e)
+legal-guaranteed s e =
+    let each : (i : ℕ) → i < 3 → getD (legalTests s) i true ≡ false = any-of-none (legalTests s) (not-true _ e) in
+    guaranteed s (each 0 (lit< tt)) (each 1 (lit< tt)) (each 2 (lit< tt))

@@ -1,21 +1,29 @@
 -- What an accepted set-up guarantees of the settings: a test, and what it means.
-use mathlib.Core.Bool.{Bool, true, false, not}
-use mathlib.Core.List.{[]}
+use mathlib.Core.Bool.{Bool, true, false, not, _&&_}
+use mathlib.Core.List.{List, [], _∷_}
 use mathlib.Core.Path.{_≡_}
 use Prim.Native.Nat.{ℕ, _+_, _%_, _≤_, _<_}
 use lib.Bits.{bitAnd}
+use lib.Dec.{eqb}
 use lib.ListN.{length, getD}
-use Rattle.lists.specs.Any.{any}
+use Rattle.lists.specs.Any.{any, anyOf}
 use Rattle.cells.specs.Cells.{flagOf}
 use Rattle.sleep.specs.Pairs.{outOfRange, shared}
 use Rattle.platform.specs.Blocks.{present, holds, noBlock}
-use Rattle.platform.specs.Rules.{blocksOf, events, settingsRules}
+use Rattle.platform.specs.Rules.{blocksOf, gpeLongest, eventCount, settingsRules}
 use Rattle.platform.specs.declared.block.Block.{Block}
 use Rattle.platform.specs.declared.settings.Settings.{Settings}
 
--- none of lines 5 to 12 refuses
+-- an absent block that has a length all the same
+unfoldable pub strayLength : Block → Bool
+strayLength b = not (present b) && not (eqb (b .length) 0)
+
+-- none of lines 5 to 12 refuses, and an absent PM1b block has no length, so that equal platforms are equal values
+abbrev pub legalTests : Settings → List Bool
+legalTests s = any (λ r. r .refused) (settingsRules s) ∷ strayLength (s .«pm1b_evt») ∷ strayLength (s .«pm1b_cnt») ∷ []
+
 unfoldable pub legalSettings : Settings → Bool
-legalSettings s = not (any (λ r. r .refused) (settingsRules s))
+legalSettings s = not (anyOf (legalTests s))
 
 -- where the block is present it has this length
 abbrev pub HasLength : ℕ → Block → Type 0
@@ -23,7 +31,7 @@ HasLength n b = present b ≡ true → b .length ≡ n
 
 -- .. as a GPE block: "even and 2 to 16"
 abbrev pub HasGpeLength : Block → Type 0
-HasGpeLength b = present b ≡ true → (b .length % 2 ≡ 0) × (2 ≤ b .length) × (b .length ≤ 16)
+HasGpeLength b = present b ≡ true → (b .length % 2 ≡ 0) × (2 ≤ b .length) × (b .length ≤ gpeLongest)
 
 -- where it is absent it has no length
 abbrev pub HasNone : Block → Type 0
@@ -33,6 +41,7 @@ HasNone b = present b ≡ false → b .length ≡ 0
 abbrev pub blockAt : Settings → ℕ → Block
 blockAt s i = getD (blocksOf s) i noBlock
 
+-- what the test means, and so what every accepted set-up gives
 pub record Guaranteed (s : Settings) : Type 0 where
   pub full-hardware : flagOf (s .flags) 20 ≡ false
   pub evt-a-length : HasLength 4 (s .«pm1a_evt»)
@@ -43,6 +52,8 @@ pub record Guaranteed (s : Settings) : Type 0 where
   pub tmr-length : HasLength 4 (s .«pm_tmr»)
   pub gpe0-length : HasGpeLength (s .gpe0)
   pub gpe1-length : HasGpeLength (s .gpe1)
+  pub evt-b-none : HasNone (s .«pm1b_evt»)
+  pub cnt-b-none : HasNone (s .«pm1b_cnt»)
   pub pm2-none : HasNone (s .«pm2_cnt»)
   pub tmr-none : HasNone (s .«pm_tmr»)
   pub gpe0-none : HasNone (s .gpe0)
@@ -57,8 +68,8 @@ pub record Guaranteed (s : Settings) : Type 0 where
   pub within-ports : (i : ℕ) → i < 9 → blockAt s i .address + blockAt s i .length ≤ 65536
   -- a port inside a present block belongs to that block alone
   pub one-block : (port i j : ℕ) → i < 9 → j < 9 → holds (blockAt s i) port ≡ true → holds (blockAt s j) port ≡ true → i ≡ j
-  pub gpe1-above-gpe0 : present (s .gpe1) ≡ true → events (s .gpe0) ≤ s .«gpe1_base»
-  pub gpe1-numbers : present (s .gpe1) ≡ true → s .«gpe1_base» + events (s .gpe1) ≤ 256
+  pub gpe1-above-gpe0 : present (s .gpe1) ≡ true → eventCount (s .gpe0) ≤ s .«gpe1_base»
+  pub gpe1-numbers : present (s .gpe1) ≡ true → s .«gpe1_base» + eventCount (s .gpe1) ≤ 256
   pub commands-differ : (s .«smi_cmd» ≡ 0 → ⊥) → s .«acpi_enable» ≡ s .«acpi_disable» → ⊥
   pub event-homes : bitAnd (s .«event_homes») 0xC731 ≡ s .«event_homes»
   pub control-homes : bitAnd (s .«control_homes») 0x0007 ≡ s .«control_homes»

@@ -26,13 +26,17 @@ blocksOf s =
 unfoldable pub hardwareReduced : Settings → Bool
 hardwareReduced s = flagOf (s .flags) 20
 
--- "House limits": the one length that a present block may have
-unfoldable pub wrongLength : ℕ → Block → Bool
-wrongLength n b = present b && not (eqb (b .length) n)
+-- "House limits": a present block has another length than the one allowed
+unfoldable pub wrongBlockLength : ℕ → Block → Bool
+wrongBlockLength n b = present b && not (eqb (b .length) n)
 
 -- "a GPE block even and 2 to 16"
+abbrev pub gpeLongest : ℕ
+gpeLongest = 16
+
+-- a present GPE block is none of these
 unfoldable pub wrongGpeLength : Block → Bool
-wrongGpeLength b = present b && not (eqb (b .length % 2) 0 && (leb 2 (b .length) && leb (b .length) 16))
+wrongGpeLength b = present b && not (eqb (b .length % 2) 0 && (leb 2 (b .length) && leb (b .length) gpeLongest))
 
 -- "just one of address and length is zero"
 unfoldable pub justOneZero : Block → Bool
@@ -41,12 +45,12 @@ justOneZero b = (eqb (b .address) 0 && not (eqb (b .length) 0)) || (not (eqb (b 
 -- 6: "a present block's length is not allowed, or just one of address and length is zero for PM2, timer or GPE"
 abbrev pub lengthTests : Settings → List Bool
 lengthTests s =
-    wrongLength 4 (s .«pm1a_evt») ∷
-    wrongLength 4 (s .«pm1b_evt») ∷
-    wrongLength 2 (s .«pm1a_cnt») ∷
-    wrongLength 2 (s .«pm1b_cnt») ∷
-    wrongLength 1 (s .«pm2_cnt») ∷
-    wrongLength 4 (s .«pm_tmr») ∷
+    wrongBlockLength 4 (s .«pm1a_evt») ∷
+    wrongBlockLength 4 (s .«pm1b_evt») ∷
+    wrongBlockLength 2 (s .«pm1a_cnt») ∷
+    wrongBlockLength 2 (s .«pm1b_cnt») ∷
+    wrongBlockLength 1 (s .«pm2_cnt») ∷
+    wrongBlockLength 4 (s .«pm_tmr») ∷
     wrongGpeLength (s .gpe0) ∷
     wrongGpeLength (s .gpe1) ∷
     justOneZero (s .«pm2_cnt») ∷
@@ -58,7 +62,7 @@ lengthTests s =
 unfoldable pub lengthRefused : Settings → Bool
 lengthRefused s = anyOf (lengthTests s)
 
--- "PM1 event and timer addresses are multiples of 4, PM1 control addresses of 2"
+-- "PM1 event and timer addresses are multiples of 4, PM1 control addresses of 2": an address is no multiple of n
 unfoldable pub misaligned : ℕ → Block → Bool
 misaligned n b = not (eqb (b .address % n) 0)
 
@@ -83,12 +87,12 @@ unfoldable pub overlapRefused : Settings → Bool
 overlapRefused s = anyTwo overlap (blocksOf s)
 
 -- "GPE0 has 4 events for each byte of block length, .. GPE1 likewise"
-abbrev pub events : Block → ℕ
-events b = 4 * b .length
+abbrev pub eventCount : Block → ℕ
+eventCount b = 4 * b .length
 
 -- 9: "GPE1 is present and its base is below GPE0's event count, or base plus count exceeds 256"
 unfoldable pub gpeRefused : Settings → Bool
-gpeRefused s = present (s .gpe1) && (ltb (s .«gpe1_base») (events (s .gpe0)) || ltb 256 (s .«gpe1_base» + events (s .gpe1)))
+gpeRefused s = present (s .gpe1) && (ltb (s .«gpe1_base») (eventCount (s .gpe0)) || ltb 256 (s .«gpe1_base» + eventCount (s .gpe1)))
 
 -- 10: "SMI_CMD is nonzero and ACPI_ENABLE equals ACPI_DISABLE"
 unfoldable pub commandsRefused : Settings → Bool

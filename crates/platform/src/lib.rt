@@ -4,7 +4,14 @@ mod rules;
 mod settings;
 
 pub use block::Block;
+pub use block::holds_port;
+pub use block::is_present;
+pub use block::offset;
 pub use rules::SetUpAnswer;
+pub use rules::blocks;
 pub use rules::judge;
 pub use rules::number;
 pub use settings::Settings;
+pub use settings::enable_cells;
+pub use settings::status_cells;
+pub use settings::wide_timer;

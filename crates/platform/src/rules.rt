@@ -14,14 +14,14 @@ ghost use Rattle.platform.specs.Blocks.{overlap, passesPorts};
 ghost use Rattle.platform.specs.Rules.{
   blocksOf,
   hardwareReduced,
-  wrongLength,
+  wrongBlockLength,
   wrongGpeLength,
   justOneZero,
   lengthRefused,
   misaligned,
   placeRefused,
   overlapRefused,
-  events,
+  eventCount,
   gpeRefused,
   commandsRefused,
   homeless,
@@ -124,7 +124,7 @@ fn hardware_reduced(s: Settings) -> bool
 }
 
 fn wrong_length(n: u8, b: Block) -> bool
-    ensures { λ r. ⌜ r ≡ wrongLength n b ⌝ }
+    ensures { λ r. ⌜ r ≡ wrongBlockLength n b ⌝ }
 {
     is_present(b) & (b.length != n)
 }
@@ -236,8 +236,8 @@ fn overlap_refused(s: Settings) -> bool
     any_overlap(blocks(s))
 }
 
-fn events(b: Block) -> u64
-    ensures { λ r. ⌜ r ≡ events b ⌝ }
+fn event_count(b: Block) -> u64
+    ensures { λ r. ⌜ r ≡ eventCount b ⌝ }
 {
     4 * (b.length as u64)
 }
@@ -248,7 +248,7 @@ fn gpe_refused(s: Settings) -> bool
     let gpe0 = s.gpe0;
     let gpe1 = s.gpe1;
     let base = s.gpe1_base as u64;
-    is_present(gpe1) & ((base < events(gpe0)) | (256 < base + events(gpe1)))
+    is_present(gpe1) & ((base < event_count(gpe0)) | (256 < base + event_count(gpe1)))
 }
 
 fn commands_refused(s: Settings) -> bool

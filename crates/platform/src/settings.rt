@@ -1,6 +1,10 @@
 // What setting up keeps of the table and of what the host gives.
 use crate::block::Block;
+use crate::block::is_present;
+use cells::Column;
 use sleep::SleepTable;
+ghost use mathlib.Core.Path.{_≡_};
+ghost use Rattle.platform.specs.Cells.{statusCells, enableCells, wideTimer};
 
 pub struct Settings {
     // the port where the guest writes commands to the firmware
@@ -24,4 +28,27 @@ pub struct Settings {
     // whether the power override is fitted
     pub power_override: bool,
     pub sleep: SleepTable,
+}
+
+// The fitted status cells.
+pub fn status_cells(s: Settings) -> u16
+    ensures { λ r. ⌜ r ≡ statusCells s ⌝ }
+{
+    let tmr = s.pm_tmr;
+    cells::mask(Column::Status, s.flags, is_present(tmr))
+}
+
+// The fitted enable cells.
+pub fn enable_cells(s: Settings) -> u16
+    ensures { λ r. ⌜ r ≡ enableCells s ⌝ }
+{
+    let tmr = s.pm_tmr;
+    cells::mask(Column::Enable, s.flags, is_present(tmr))
+}
+
+// Whether the timer has 32 bits, and not 24.
+pub fn wide_timer(s: Settings) -> bool
+    ensures { λ r. ⌜ r ≡ wideTimer s ⌝ }
+{
+    cells::flag(s.flags, 8)
 }

@@ -1,5 +1,5 @@
 -- `fadt::wrong_length` meets its contract: what its calls and tests say, put together, is the definition. Assumes nothing.
-use Rattle.fadt.specs.Table.{wrongLength}
+use Rattle.fadt.specs.Table.{wrongTableLength}
 use borrow.Author.Needs.{needs}
 use Rattle.fadt.proofs.wrong_length.Statement.{statement}
 use Rattle.fadt.proofs.wrong_length.Tie as tie
@@ -11,7 +11,7 @@ cast-n : tie.Need-cast-n
 cast-n c = search needs
 
 returns : tie.Need-returns
-unfolding wrongLength
+unfolding wrongTableLength
 returns c = simp (c .dword-at .ensures)
 
 pub wrong-length-spec : {M : Type 1} → statement M

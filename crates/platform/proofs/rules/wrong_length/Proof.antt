@@ -1,5 +1,5 @@
 -- `platform::rules::wrong_length` meets its contract: what its calls and tests say, put together, is the definition. Assumes nothing.
-use Rattle.platform.specs.Rules.{wrongLength}
+use Rattle.platform.specs.Rules.{wrongBlockLength}
 use borrow.Author.Needs.{needs}
 use Rattle.platform.proofs.rules.wrong_length.Statement.{statement}
 use Rattle.platform.proofs.rules.wrong_length.Tie as tie
@@ -8,7 +8,7 @@ is-present-requires : tie.Need-is-present-requires
 is-present-requires c κs = search needs
 
 returns : tie.Need-returns
-unfolding wrongLength
+unfolding wrongBlockLength
 returns c = simp (c .before .is-present .ensures)
 
 pub wrong-length-spec : {M : Type 1} → statement M

@@ -1,0 +1,16 @@
+-- `platform::settings::enable_cells` meets its contract: what its calls and tests say, put together, is the definition. Assumes nothing.
+use borrow.Author.Needs.{needs}
+use Rattle.platform.proofs.settings.enable_cells.Statement.{statement}
+use Rattle.platform.proofs.settings.enable_cells.Tie as tie
+
+is-present-requires : tie.Need-is-present-requires
+is-present-requires c κs = search needs
+
+mask-requires : tie.Need-mask-requires
+mask-requires c κs = search needs
+
+returns : tie.Need-returns
+returns c = simp (c .mask .ensures, c .before .is-present .ensures)
+
+pub enable-cells-spec : {M : Type 1} → statement M
+enable-cells-spec = tie.close (tie.spec is-present-requires mask-requires returns)
