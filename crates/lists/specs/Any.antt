@@ -1,5 +1,6 @@
 -- Whether a list holds what a test looks for.
-use mathlib.Core.Bool.{Bool, true, false, _||_}
+use mathlib.Core.Bool.{Bool, true, false, cond, _||_}
+use Prim.Native.Nat.{ℕ, suc}
 use mathlib.Core.List.{List, [], _∷_}
 
 -- some element passes
@@ -21,3 +22,8 @@ joined t (u ∷ us) = joined (t || u) us
 abbrev pub anyOf : List Bool → Bool
 anyOf [] = false
 anyOf (t ∷ ts) = joined t ts
+
+-- the place of the first element that passes; past the end where none does
+unfoldable pub firstAt : {A : Type 0} → (A → Bool) → List A → ℕ
+firstAt f [] = 0
+firstAt f (x ∷ xs) = cond (f x) 0 (suc (firstAt f xs))

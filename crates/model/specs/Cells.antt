@@ -1,0 +1,160 @@
+-- The cells: where each lives, how a read shows them and what a write does to them.
+use mathlib.Core.Bool.{Bool, not, cond, _&&_, _||_}
+use mathlib.Core.List.{List}
+use Prim.Native.Nat.{ℕ, _*_, _-_, _/_, _%_, _^_}
+use lib.Bits.{bitAnd, bitOr}
+use lib.Dec.{eqb, ltb}
+use lib.ListN.{getD, set}
+use Rattle.bits.specs.Cell.{kept, clearedBy, takenBy, lane, byteAt}
+use Rattle.platform.specs.Blocks.{present}
+use Rattle.platform.specs.Cells.{statusCells, enableCells}
+use Rattle.platform.specs.declared.settings.Settings.{Settings}
+use Rattle.machine.specs.declared.Machine.{Machine}
+
+-- the bits of the table, by their status names
+abbrev pub tmrBit : ℕ
+tmrBit = 0x0001
+
+abbrev pub bmBit : ℕ
+bmBit = 0x0010
+
+abbrev pub gblBit : ℕ
+gblBit = 0x0020
+
+abbrev pub pwrbtnBit : ℕ
+pwrbtnBit = 0x0100
+
+abbrev pub slpbtnBit : ℕ
+slpbtnBit = 0x0200
+
+abbrev pub rtcBit : ℕ
+rtcBit = 0x0400
+
+abbrev pub pciexpWakeBit : ℕ
+pciexpWakeBit = 0x4000
+
+abbrev pub wakBit : ℕ
+wakBit = 0x8000
+
+-- a bit is among those of a mask
+unfoldable pub hasBit : ℕ → ℕ → Bool
+hasBit mask bit = not (eqb (bitAnd mask bit) 0)
+
+-- "one bit set meaning block B": the bits that live in the block
+abbrev pub homesIn : ℕ → Bool → ℕ
+homesIn homes b = cond b homes (2 ^ 16 - 1 - homes)
+
+-- "Each event bit lives in one block, its home; status and enable share it": the fitted cells that the block shows
+abbrev pub statusIn : Settings → Bool → ℕ
+statusIn s b = bitAnd (statusCells s) (homesIn (s .«event_homes») b)
+
+abbrev pub enableIn : Settings → Bool → ℕ
+enableIn s b = bitAnd (enableCells s) (homesIn (s .«event_homes») b)
+
+-- ---- accesses of one or two bytes to a register of two
+
+-- "A byte access touches that byte alone": the byte of the register at an even or odd offset
+abbrev pub laneAt : ℕ → ℕ
+laneAt offset = offset % 2
+
+-- what an access of the width shows of the register
+abbrev pub shown : ℕ → ℕ → ℕ → ℕ
+shown width offset register = cond (eqb width 1) (byteAt (laneAt offset) register) register
+
+-- the register's bits that the access covers
+abbrev pub covered : ℕ → ℕ → ℕ
+covered width offset = cond (eqb width 1) (lane (laneAt offset) 255) (2 ^ 16 - 1)
+
+-- what is written, at its place in the register
+abbrev pub placed : ℕ → ℕ → ℕ
+placed offset written = lane (laneAt offset) written
+
+-- ---- the PM1 event registers
+
+-- "The status half comes first, the enable half second."
+unfoldable pub inStatus : ℕ → Bool
+inStatus offset = ltb offset 2
+
+-- "Elsewhere, and for unfitted or reserved bits, reads give zero"
+abbrev pub eventRegister : Machine → Bool → ℕ → ℕ
+eventRegister m b offset =
+    cond (inStatus offset) (bitAnd (m .«pm1_sts») (statusIn (m .settings) b)) (bitAnd (m .«pm1_en») (enableIn (m .settings) b))
+
+-- the ones written to fitted status bits that live in the block
+abbrev pub onesIn : Settings → Bool → ℕ → ℕ → ℕ → ℕ
+onesIn s b width offset written = bitAnd (placed offset written) (bitAnd (statusIn s b) (covered width offset))
+
+-- "Writing one to a status bit clears it; writing zero keeps it."
+unfoldable pub statusAfter : Machine → Bool → ℕ → ℕ → ℕ → ℕ
+statusAfter m b width offset written =
+    cond (inStatus offset) (kept 16 (m .«pm1_sts») (onesIn (m .settings) b width offset written)) (m .«pm1_sts»)
+
+-- "An enable bit takes the value written."
+unfoldable pub enableAfter : Machine → Bool → ℕ → ℕ → ℕ → ℕ
+enableAfter m b width offset written =
+    cond (inStatus offset) (m .«pm1_en»)
+    (takenBy 16 (m .«pm1_en») (placed offset written) (bitAnd (enableIn (m .settings) b) (covered width offset)))
+
+-- ---- the PM1 control registers
+
+-- a control bit, 0 SCI_EN, 1 BM_RLD or 2 GBL_RLS, lives in the block
+unfoldable pub controlIn : Settings → Bool → ℕ → Bool
+controlIn s b bit = hasBit (homesIn (s .«control_homes») b) (2 ^ bit)
+
+abbrev pub bitWhen : Bool → ℕ → ℕ
+bitWhen test bit = cond test (2 ^ bit) 0
+
+-- PM1b control is present
+abbrev pub hasB : Settings → Bool
+hasB s = present (s .«pm1b_cnt»)
+
+abbrev pub slpTyp : Machine → Bool → ℕ
+slpTyp m b = cond b (m .«slp_typ_b») (m .«slp_typ_a»)
+
+-- "0 SCI_EN .., 1 BM_RLD, 2 GBL_RLS (.. reads zero), each in its home; 10 to 12 SLP_TYP in both blocks; 13 SLP_EN, reads zero"
+abbrev pub controlRegister : Machine → Bool → ℕ
+controlRegister m b =
+    bitOr (bitOr (bitWhen (controlIn (m .settings) b 0 && m .«sci_en») 0) (bitWhen (controlIn (m .settings) b 1 && m .«bm_rld») 1)) (slpTyp m b * 2 ^ 10)
+
+-- the access covers the register's low byte, or its high byte
+unfoldable pub coversLow : ℕ → ℕ → Bool
+coversLow width offset = eqb width 2 || eqb (laneAt offset) 0
+
+unfoldable pub coversHigh : ℕ → ℕ → Bool
+coversHigh width offset = eqb width 2 || eqb (laneAt offset) 1
+
+-- bit n of what is written at the offset
+unfoldable pub writtenBit : ℕ → ℕ → ℕ → Bool
+writtenBit offset written n = eqb (placed offset written / 2 ^ n % 2) 1
+
+-- ---- the general event bytes
+
+-- "GPE: status bytes, then as many enable bytes"
+abbrev pub gpeHalf : Settings → Bool → ℕ
+gpeHalf s b = cond b (s .gpe1 .length) (s .gpe0 .length) / 2
+
+abbrev pub gpeSts : Machine → Bool → List ℕ
+gpeSts m b = cond b (m .«gpe1_sts») (m .«gpe0_sts»)
+
+abbrev pub gpeEn : Machine → Bool → List ℕ
+gpeEn m b = cond b (m .«gpe1_en») (m .«gpe0_en»)
+
+unfoldable pub inGpeStatus : Settings → Bool → ℕ → Bool
+inGpeStatus s b offset = ltb offset (gpeHalf s b)
+
+abbrev pub gpeByte : Machine → Bool → ℕ → ℕ
+gpeByte m b offset =
+    cond (inGpeStatus (m .settings) b offset) (getD (gpeSts m b) offset 0) (getD (gpeEn m b) (offset - gpeHalf (m .settings) b) 0)
+
+-- ".. the same rules": a status byte after a write to a byte of the block
+unfoldable pub gpeStsAfter : Machine → Bool → ℕ → ℕ → List ℕ
+gpeStsAfter m b offset written =
+    cond (inGpeStatus (m .settings) b offset)
+    (set (gpeSts m b) offset (clearedBy 8 (getD (gpeSts m b) offset 0) written 255))
+    (gpeSts m b)
+
+unfoldable pub gpeEnAfter : Machine → Bool → ℕ → ℕ → List ℕ
+gpeEnAfter m b offset written =
+    cond (inGpeStatus (m .settings) b offset)
+    (gpeEn m b)
+    (set (gpeEn m b) (offset - gpeHalf (m .settings) b) written)

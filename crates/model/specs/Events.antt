@@ -1,0 +1,128 @@
+-- Buttons, alarm, wake, bus master, global lock, general events and ticks.
+use mathlib.Core.Bool.{Bool, true, false, not, cond, _&&_, _||_}
+use mathlib.Core.List.{List}
+use Prim.Native.Nat.{ℕ, zero, suc, _+_, _-_, _/_, _%_, _^_}
+use lib.Bits.{bitAnd, bitOr}
+use lib.Dec.{eqb, ltb, leb}
+use lib.ListN.{getD, set}
+use Rattle.cells.specs.Cells.{flagOf}
+use Rattle.clock.specs.Clock.{tickOf}
+use Rattle.clock.specs.declared.Clock.{Clock}
+use Rattle.platform.specs.Blocks.{present}
+use Rattle.platform.specs.Cells.{statusCells, wideTimer}
+use Rattle.platform.specs.Rules.{eventCount}
+use Rattle.platform.specs.declared.settings.Settings.{Settings}
+use Rattle.machine.specs.declared.Machine.{Machine}
+use Rattle.model.specs.Cells.{tmrBit, bmBit, gblBit, pwrbtnBit, slpbtnBit, rtcBit, pciexpWakeBit, hasBit, gpeSts, gpeEn}
+use Rattle.model.specs.Fields.{withEvent, withGpe, withButton, withTime, enter}
+use Rattle.model.specs.Lines.{awake}
+use Rattle.model.specs.Sleep.{lightSleep, wakeBits, wokenIf, restarted, overridden}
+use Rattle.model.specs.declared.Event.{Event}
+use Rattle.model.specs.declared.Event.the-variants as event
+
+-- the bit is fitted
+abbrev pub fits : Settings → ℕ → Bool
+fits s bit = hasBit (statusCells s) bit
+
+-- "set their bits"
+abbrev pub raised : Machine → ℕ → Machine
+raised m bits = withEvent m (bitOr (m .«pm1_sts») bits) (m .«pm1_en»)
+
+unfoldable pub inS5 : Machine → Bool
+inS5 m = eqb (m .state) 5
+
+-- ---- buttons
+
+-- "Press sets PWRBTN, hold zero." "a press always" wakes; "From S5 only a press wakes: .. then PWRBTN set"
+unfoldable pub pressOf : Machine → Machine
+pressOf m = withButton (raised (cond (inS5 m) (restarted m) (wokenIf true m)) pwrbtnBit) true 0
+
+-- "Release lets the button up and keeps hold."
+abbrev pub releaseOf : Machine → Machine
+releaseOf m = withButton m false (m .hold)
+
+-- "sleep press, alarm .. if enabled (alarm in S4 only with flag 7)"; "In S5 .. other accepted events change nothing"
+unfoldable pub signalOf : Machine → ℕ → Machine
+signalOf m bit =
+    cond (inS5 m) m (wokenIf (hasBit (m .«pm1_en») bit && hasBit (wakeBits (m .settings) (m .state)) bit) (raised m bit))
+
+-- "PCIe wake does nothing in S0"; "PCIe wake if its disable is clear, and only then is its bit set"
+unfoldable pub pcieWakeOf : Machine → Machine
+pcieWakeOf m = cond (lightSleep (m .state) && not (hasBit (m .«pm1_en») pciexpWakeBit)) (wokenIf true (raised m pciexpWakeBit)) m
+
+-- ---- general events
+
+-- "GPE0 has 4 events for each byte of block length, numbered from 0"
+unfoldable pub inGpe0 : Settings → ℕ → Bool
+inGpe0 s k = ltb k (eventCount (s .gpe0))
+
+-- "GPE1 likewise from GPE1_BASE"
+unfoldable pub inGpe1 : Settings → ℕ → Bool
+inGpe1 s k = leb (s .«gpe1_base») k && ltb (k - s .«gpe1_base») (eventCount (s .gpe1))
+
+-- the event's place in its block
+abbrev pub numberIn : Settings → ℕ → ℕ
+numberIn s k = cond (inGpe0 s k) k (k - s .«gpe1_base»)
+
+-- status byte i of a block gains bit j
+abbrev pub withBit : List ℕ → ℕ → List ℕ
+withBit xs k = set xs (k / 8) (bitOr (getD xs (k / 8) 0) (2 ^ (k % 8)))
+
+-- its enable is set
+abbrev pub isEnabled : List ℕ → ℕ → Bool
+isEnabled xs k = hasBit (getD xs (k / 8) 0) (2 ^ (k % 8))
+
+unfoldable pub generalRaised : Machine → ℕ → Machine
+generalRaised m k =
+    withGpe m
+    (cond (inGpe0 (m .settings) k) (withBit (m .«gpe0_sts») k) (m .«gpe0_sts»))
+    (m .«gpe0_en»)
+    (cond (inGpe0 (m .settings) k) (m .«gpe1_sts») (withBit (m .«gpe1_sts») (numberIn (m .settings) k)))
+    (m .«gpe1_en»)
+
+unfoldable pub generalEnabled : Machine → ℕ → Bool
+generalEnabled m k = cond (inGpe0 (m .settings) k) (isEnabled (m .«gpe0_en») k) (isEnabled (m .«gpe1_en») (numberIn (m .settings) k))
+
+unfoldable pub generalOf : Machine → ℕ → Machine
+generalOf m k = cond (inS5 m) m (wokenIf (generalEnabled m k) (generalRaised m k))
+
+-- ---- ticks
+
+-- the clock that a tick of the machine finds
+abbrev pub clockOf : Machine → Clock
+clockOf m = record { counter = m .counter; turns = 0; hold = m .hold; off = false }
+
+-- "TMR, if fitted, is set when its top bit changes"
+unfoldable pub tmrRaised : Settings → ℕ → ℕ
+tmrRaised s turns = cond (fits s tmrBit && not (eqb turns 0)) tmrBit 0
+
+-- the machine with a clock's counter, hold, turns and override
+unfoldable pub timed : Machine → Clock → Machine
+timed m t =
+    cond (t .off)
+    (overridden (withTime (raised m (tmrRaised (m .settings) (t .turns))) (t .counter) (t .hold)))
+    (withTime (raised m (tmrRaised (m .settings) (t .turns))) (t .counter) (t .hold))
+
+-- one tick, "in S0 only"
+unfoldable pub tickedOnce : Machine → Machine
+tickedOnce m =
+    cond (awake m) (timed m (tickOf (wideTimer (m .settings)) (m .button) (m .settings .«power_override») (clockOf m))) m
+
+-- "Tick, n times"
+unfoldable pub ticksOf : ℕ → Machine → Machine
+ticksOf zero m = m
+ticksOf (suc n) m = ticksOf n (tickedOnce m)
+
+-- ---- all of them
+
+-- what an accepted event does
+unfoldable pub eventOf : Machine → Event → Machine
+eventOf m event.Press = pressOf m
+eventOf m event.Release = releaseOf m
+eventOf m event.SleepPress = signalOf m slpbtnBit
+eventOf m event.Alarm = signalOf m rtcBit
+eventOf m event.PcieWake = pcieWakeOf m
+eventOf m event.BusMaster = raised m bmBit
+eventOf m event.Unlock = raised m gblBit
+eventOf m (event.General k) = generalOf m k
+eventOf m (event.Ticks n) = ticksOf n m

@@ -1,0 +1,10 @@
+pub mod Answer
+pub mod Fields
+pub mod Ports
+pub mod Cells
+pub mod Lines
+pub mod Sleep
+pub mod Bus
+pub mod Events
+pub mod Firmware
+pub mod Step

@@ -1,0 +1,38 @@
+-- Where a port leads.
+use mathlib.Core.Bool.{true, false}
+use mathlib.Core.List.{List, [], _∷_}
+use Prim.Native.Nat.{ℕ, _-_}
+use lib.ListN.{getD}
+use Rattle.lists.specs.Any.{firstAt}
+use Rattle.platform.specs.Blocks.{holds}
+use Rattle.platform.specs.Legal.{blockAt}
+use Rattle.platform.specs.Rules.{blocksOf}
+use Rattle.platform.specs.declared.settings.Settings.{Settings}
+use Rattle.model.specs.declared.Register.{Register}
+use Rattle.model.specs.declared.Register.the-variants as register
+
+-- the registers of the blocks, in the blocks' order
+abbrev pub registers : List Register
+registers =
+    register.Smi ∷
+    register.Event false ∷
+    register.Event true ∷
+    register.Control false ∷
+    register.Control true ∷
+    register.Pm2 ∷
+    register.Timer ∷
+    register.Gpe false ∷
+    register.Gpe true ∷
+    []
+
+-- the first block that holds the port, by its place in the order
+abbrev pub placeAt : Settings → ℕ → ℕ
+placeAt s port = firstAt (λ b. holds b port) (blocksOf s)
+
+-- the register that the port leads to
+unfoldable pub registerAt : Settings → ℕ → Register
+registerAt s port = getD registers (placeAt s port) register.Nowhere
+
+-- the port's offset in its block
+unfoldable pub offsetAt : Settings → ℕ → ℕ
+offsetAt s port = port - blockAt s (placeAt s port) .address

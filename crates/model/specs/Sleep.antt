@@ -1,0 +1,59 @@
+-- Sleep and wake.
+use mathlib.Core.Bool.{Bool, true, false, not, cond, _&&_, _||_}
+use mathlib.Core.List.{List}
+use Prim.Native.Nat.{ℕ, _+_}
+use lib.Bits.{bitAnd, bitOr}
+use lib.Dec.{eqb, ltb, leb}
+use Rattle.cells.specs.Cells.{flagOf}
+use Rattle.bits.specs.Cell.{kept}
+use Rattle.machine.specs.PowerOn.{noBytes}
+use Rattle.machine.specs.declared.Machine.{Machine}
+use Rattle.platform.specs.declared.settings.Settings.{Settings}
+use Rattle.model.specs.Cells.{pwrbtnBit, slpbtnBit, rtcBit, wakBit, hasBit}
+use Rattle.model.specs.Fields.{withEvent, withGpe, withControl, withCommand, withArbDis, withSciEn, enter}
+use Rattle.model.specs.Lines.{gpeEvent}
+
+-- S1 to S4
+unfoldable pub lightSleep : ℕ → Bool
+lightSleep state = leb 1 state && leb state 4
+
+-- the PM1 bits that wake the state where they are enabled: 8, 9, 10, "bit 10 in S4 only with flag 7"
+unfoldable pub wakeBits : Settings → ℕ → ℕ
+wakeBits s state = cond (not (eqb state 4) || flagOf (s .flags) 7) (pwrbtnBit + slpbtnBit + rtcBit) (pwrbtnBit + slpbtnBit)
+
+-- "Wake from S1 to S4 .. WAK is set. .. Registers are kept."
+abbrev pub woken : Machine → Machine
+woken m = enter (withEvent m (bitOr (m .«pm1_sts») wakBit) (m .«pm1_en»)) 0
+
+-- an event in S1 to S4 that wakes, or does not
+abbrev pub wokenIf : Bool → Machine → Machine
+wokenIf test m = cond (lightSleep (m .state) && test) (woken m) m
+
+-- "one of the enabled bits 8, 9, 10 .. or an enabled GPE is already set"
+unfoldable pub pending : Machine → ℕ → Bool
+pending m state = hasBit (bitAnd (m .«pm1_sts») (m .«pm1_en»)) (wakeBits (m .settings) state) || gpeEvent m
+
+-- "If on completing S1 to S4 .. already set, the machine wakes in the same step."
+unfoldable pub completed : Machine → ℕ → Machine
+completed m state = wokenIf (pending m state) (enter m state)
+
+-- "From S5 only a press wakes: all PM1 and GPE cells, BM_RLD, SLP_TYP, PM2, release flag and command zero, .. counter kept; SCI_EN as at power-on; WAK not set."
+abbrev pub restarted : Machine → Machine
+restarted m =
+    enter
+    (withSciEn
+    (withArbDis
+    (withCommand
+    (withControl
+    (withGpe
+    (withEvent m 0 0)
+    noBytes noBytes noBytes noBytes)
+    false false 0 0 false)
+    false 0)
+    false)
+    (eqb (m .settings .«smi_cmd») 0))
+    0
+
+-- "The tick that reaches this, with the override fitted, clears PWRBTN and enters S5."
+abbrev pub overridden : Machine → Machine
+overridden m = enter (withEvent m (kept 16 (m .«pm1_sts») pwrbtnBit) (m .«pm1_en»)) 5

@@ -1,0 +1,106 @@
+-- One step: the table of refusals, the value, and the machine after it.
+use mathlib.Core.Bool.{Bool, true, false, not, cond, _&&_, _||_}
+use mathlib.Core.List.{List, [], _∷_}
+use Prim.Native.Nat.{ℕ}
+use lib.Dec.{eqb}
+use Rattle.machine.specs.declared.Machine.{Machine}
+use Rattle.model.specs.Answer.{numberOf, Line, _if_, firstApplying}
+use Rattle.model.specs.Bus.{wrongWidth, dataTooWide, leadsNowhere, allowed, isTimer, commandLost, namesNone, readOf, writeOf}
+use Rattle.model.specs.Cells.{pwrbtnBit, slpbtnBit, rtcBit, pciexpWakeBit}
+use Rattle.model.specs.Events.{fits, inGpe0, inGpe1, eventOf}
+use Rattle.model.specs.Firmware.{takeOf, dropOf}
+use Rattle.model.specs.Lines.{awake}
+use Rattle.model.specs.Ports.{registerAt, offsetAt}
+use Rattle.model.specs.declared.Access.{Access}
+use Rattle.model.specs.declared.Answer.{Answer}
+use Rattle.model.specs.declared.Answer.the-variants as answer
+use Rattle.model.specs.declared.Event.{Event}
+use Rattle.model.specs.declared.Event.the-variants as event
+use Rattle.model.specs.declared.Register.{Register}
+use Rattle.model.specs.declared.Step.{Step}
+use Rattle.model.specs.declared.Step.the-variants as step
+use Rattle.model.specs.declared.Stepped.{Stepped}
+
+abbrev pub registerOf : Machine → Access → Register
+registerOf m a = registerAt (m .settings) (a .port)
+
+abbrev pub offsetOf : Machine → Access → ℕ
+offsetOf m a = offsetAt (m .settings) (a .port)
+
+-- ---- the lines of the table, by the kind of step
+
+-- 21, 23 and 24, of a read
+abbrev pub readLines : Machine → Access → List Line
+readLines m a =
+    answer.Asleep if not (awake m) ∷
+    answer.WrongWidth if wrongWidth (a .width) ∷
+    answer.NoBlock if leadsNowhere (registerOf m a) ∷
+    answer.NotAllowed if not (allowed (registerOf m a) (a .width) (offsetOf m a)) ∷
+    []
+
+-- 21 to 27, of a write
+abbrev pub writeLines : Machine → Access → ℕ → List Line
+writeLines m a written =
+    answer.Asleep if not (awake m) ∷
+    answer.WrongWidth if wrongWidth (a .width) ∷
+    answer.DataTooWide if dataTooWide (a .width) written ∷
+    answer.NoBlock if leadsNowhere (registerOf m a) ∷
+    answer.NotAllowed if not (allowed (registerOf m a) (a .width) (offsetOf m a)) ∷
+    answer.TimerWritten if isTimer (registerOf m a) ∷
+    answer.CommandWaits if commandLost m (registerOf m a) ∷
+    answer.NoSleepState if namesNone m (registerOf m a) (a .width) (offsetOf m a) written ∷
+    []
+
+-- 28: "what a press, release, sleep press, alarm or PCIe wake belongs to is not fitted"; 29: "a general event number belongs to no block"; 30: "press while down, release while up"
+abbrev pub eventLines : Machine → Event → List Line
+eventLines m event.Press = answer.NotFitted if not (fits (m .settings) pwrbtnBit) ∷ answer.ButtonAlready if m .button ∷ []
+eventLines m event.Release = answer.NotFitted if not (fits (m .settings) pwrbtnBit) ∷ answer.ButtonAlready if not (m .button) ∷ []
+eventLines m event.SleepPress = answer.NotFitted if not (fits (m .settings) slpbtnBit) ∷ []
+eventLines m event.Alarm = answer.NotFitted if not (fits (m .settings) rtcBit) ∷ []
+eventLines m event.PcieWake = answer.NotFitted if not (fits (m .settings) pciexpWakeBit) ∷ []
+eventLines m event.BusMaster = answer.Asleep if not (awake m) ∷ []
+eventLines m event.Unlock = answer.Asleep if not (awake m) ∷ []
+eventLines m (event.General k) = answer.NoSuchEvent if not (inGpe0 (m .settings) k || inGpe1 (m .settings) k) ∷ []
+eventLines m (event.Ticks n) = []
+
+-- 20: "asleep: a bus access, bus-master, unlock or firmware step outside S0"; 31: "firmware takes with no command waiting"
+abbrev pub linesOf : Machine → Step → List Line
+linesOf m (step.Read a) = readLines m a
+linesOf m (step.Write a written) = writeLines m a written
+linesOf m (step.Event e) = eventLines m e
+linesOf m step.Take = answer.Asleep if not (awake m) ∷ answer.NoCommand if not (m .«command_waits») ∷ []
+linesOf m step.Drop = answer.Asleep if not (awake m) ∷ []
+
+-- ---- the step
+
+-- "Value is the reading or the command taken, else zero."
+abbrev pub valueOf : Machine → Step → ℕ
+valueOf m (step.Read a) = readOf m (registerOf m a) (a .width) (offsetOf m a)
+valueOf m (step.Write a written) = 0
+valueOf m (step.Event e) = 0
+valueOf m step.Take = m .command
+valueOf m step.Drop = 0
+
+-- what an accepted step does
+abbrev pub doneOf : Machine → Step → Machine
+doneOf m (step.Read a) = m
+doneOf m (step.Write a written) = writeOf m (registerOf m a) (a .width) (offsetOf m a) written
+doneOf m (step.Event e) = eventOf m e
+doneOf m step.Take = takeOf m
+doneOf m step.Drop = dropOf m
+
+-- "The lowest number that applies is given; otherwise 0."
+unfoldable pub answerTo : Machine → Step → Answer
+answerTo m s = firstApplying (linesOf m s) (answer.Done (valueOf m s))
+
+-- the step was accepted
+abbrev pub accepted : Answer → Bool
+accepted a = eqb (numberOf a) 0
+
+-- a refusal leaves the machine as it was
+unfoldable pub after : Machine → Step → Machine
+after m s = cond (accepted (answerTo m s)) (doneOf m s) m
+
+-- one step
+abbrev pub stepOf : Machine → Step → Stepped
+stepOf m s = record { answer = answerTo m s; machine = after m s }

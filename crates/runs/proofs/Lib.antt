@@ -1,0 +1,4 @@
+pub mod Runs
+pub mod Fit
+pub mod Moved
+pub mod Example
