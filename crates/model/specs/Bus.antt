@@ -4,9 +4,9 @@ use Prim.Native.Nat.{ℕ, _+_, _/_, _%_, _^_}
 use lib.Dec.{eqb, ltb}
 use Rattle.sleep.specs.Pairs.{stateOf}
 use Rattle.machine.specs.declared.Machine.{Machine}
-use Rattle.model.specs.Cells.{shown, placed, eventRegister, statusAfter, enableAfter, controlIn, hasB, controlRegister, coversLow, coversHigh, writtenBit, gpeSts, gpeEn, gpeByte, gpeStsAfter, gpeEnAfter}
-use Rattle.model.specs.Fields.{withEvent, withGpe, withControl, withCommand, withArbDis}
-use Rattle.model.specs.Sleep.{completed}
+use Rattle.machine.specs.Cells.{shown, placed, eventRegister, statusAfter, enableAfter, controlIn, hasB, controlRegister, coversLow, coversHigh, writtenBit, gpeSts, gpeEn, gpeByte, gpeStsAfter, gpeEnAfter}
+use Rattle.machine.specs.Fields.{withEvent, withGpe, withControl, withCommand, withArbDis}
+use Rattle.machine.specs.Sleep.{completed}
 use Rattle.model.specs.declared.Register.{Register}
 use Rattle.model.specs.declared.Register.the-variants as register
 

@@ -13,10 +13,10 @@ use Rattle.platform.specs.Cells.{statusCells, wideTimer}
 use Rattle.platform.specs.Rules.{eventCount}
 use Rattle.platform.specs.declared.settings.Settings.{Settings}
 use Rattle.machine.specs.declared.Machine.{Machine}
-use Rattle.model.specs.Cells.{tmrBit, bmBit, gblBit, pwrbtnBit, slpbtnBit, rtcBit, pciexpWakeBit, hasBit, gpeSts, gpeEn}
-use Rattle.model.specs.Fields.{withEvent, withGpe, withButton, withTime, enter}
-use Rattle.model.specs.Lines.{awake}
-use Rattle.model.specs.Sleep.{lightSleep, wakeBits, wokenIf, restarted, overridden}
+use Rattle.machine.specs.Cells.{tmrBit, bmBit, gblBit, pwrbtnBit, slpbtnBit, rtcBit, pciexpWakeBit, hasBit, gpeSts, gpeEn}
+use Rattle.machine.specs.Fields.{withEvent, withGpe, withButton, withTime, enter}
+use Rattle.machine.specs.Lines.{awake}
+use Rattle.machine.specs.Sleep.{lightSleep, wakeBits, wokenIf, restarted, overridden}
 use Rattle.model.specs.declared.Event.{Event}
 use Rattle.model.specs.declared.Event.the-variants as event
 

@@ -3,7 +3,7 @@ use mathlib.Core.Bool.{Bool, true, false, cond, _||_}
 use Prim.Native.Nat.{ℕ}
 use lib.Dec.{eqb}
 use Rattle.machine.specs.declared.Machine.{Machine}
-use Rattle.model.specs.Fields.{withEvent, withCommand, withControl, withSciEn}
+use Rattle.machine.specs.Fields.{withEvent, withCommand, withControl, withSciEn}
 
 -- the command that waits is ACPI_ENABLE, or ACPI_DISABLE
 unfoldable pub isEnable : Machine → Bool

@@ -1,9 +1,5 @@
 pub mod Answer
-pub mod Fields
 pub mod Ports
-pub mod Cells
-pub mod Lines
-pub mod Sleep
 pub mod Bus
 pub mod Events
 pub mod Firmware

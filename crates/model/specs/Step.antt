@@ -6,10 +6,10 @@ use lib.Dec.{eqb}
 use Rattle.machine.specs.declared.Machine.{Machine}
 use Rattle.model.specs.Answer.{numberOf, Line, _if_, firstApplying}
 use Rattle.model.specs.Bus.{wrongWidth, dataTooWide, leadsNowhere, allowed, isTimer, commandLost, namesNone, readOf, writeOf}
-use Rattle.model.specs.Cells.{pwrbtnBit, slpbtnBit, rtcBit, pciexpWakeBit}
+use Rattle.machine.specs.Cells.{pwrbtnBit, slpbtnBit, rtcBit, pciexpWakeBit}
 use Rattle.model.specs.Events.{fits, inGpe0, inGpe1, eventOf}
 use Rattle.model.specs.Firmware.{takeOf, dropOf}
-use Rattle.model.specs.Lines.{awake}
+use Rattle.machine.specs.Lines.{awake}
 use Rattle.model.specs.Ports.{registerAt, offsetAt}
 use Rattle.model.specs.declared.Access.{Access}
 use Rattle.model.specs.declared.Answer.{Answer}

@@ -103,7 +103,7 @@ unfolding homeless
 home-is b homes e h = eqb-true homes 0 (not-false (eqb homes 0) (and-other (not (present b)) (not (eqb homes 0)) e (ap not h)))
 
 -- the block's ports
-holds-from : (b : Block) (port : ℕ) → holds b port ≡ true → (present b ≡ true) × (b .address ≤ port) × (port < b .address + b .length)
+pub holds-from : (b : Block) (port : ℕ) → holds b port ≡ true → (present b ≡ true) × (b .address ≤ port) × (port < b .address + b .length)
 unfolding holds
 holds-from b port e =
     let at-least = leb (b .address) port in
@@ -113,7 +113,7 @@ holds-from b port e =
     let high : port - b .address < b .length = ltb-true _ _ (and-right at-least inside two) in
     (and-left (present b) (at-least && inside) e, low, omega arith)
 
-holds-of : (b : Block) (port : ℕ) → present b ≡ true → b .address ≤ port → port < b .address + b .length → holds b port ≡ true
+pub holds-of : (b : Block) (port : ℕ) → present b ≡ true → b .address ≤ port → port < b .address + b .length → holds b port ≡ true
 unfolding holds
 holds-of b port p low high =
     let inside : port - b .address < b .length = omega arith in

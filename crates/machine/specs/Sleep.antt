@@ -6,12 +6,12 @@ use lib.Bits.{bitAnd, bitOr}
 use lib.Dec.{eqb, ltb, leb}
 use Rattle.cells.specs.Cells.{flagOf}
 use Rattle.bits.specs.Cell.{kept}
 use Rattle.machine.specs.PowerOn.{noBytes}
 use Rattle.machine.specs.declared.Machine.{Machine}
 use Rattle.platform.specs.declared.settings.Settings.{Settings}
-use Rattle.model.specs.Cells.{pwrbtnBit, slpbtnBit, rtcBit, wakBit, hasBit}
-use Rattle.model.specs.Fields.{withEvent, withGpe, withControl, withCommand, withArbDis, withSciEn, enter}
-use Rattle.model.specs.Lines.{gpeEvent}
+use Rattle.machine.specs.Cells.{pwrbtnBit, slpbtnBit, rtcBit, wakBit, hasBit}
+use Rattle.machine.specs.Fields.{withEvent, withGpe, withControl, withCommand, withArbDis, withSciEn, enter}
+use Rattle.machine.specs.Lines.{gpeEvent}
 
 -- S1 to S4
 unfoldable pub lightSleep : ℕ → Bool

@@ -4,8 +4,8 @@ use mathlib.Core.List.{List, [], _∷_}
 use Prim.Native.Nat.{ℕ}
 use lib.Bits.{bitAnd}
 use lib.Dec.{eqb}
 use Rattle.machine.specs.declared.Machine.{Machine}
-use Rattle.model.specs.Cells.{hasBit}
+use Rattle.machine.specs.Cells.{hasBit}
 
 -- S0
 unfoldable pub awake : Machine → Bool

@@ -1,0 +1,3 @@
+pub mod LinesExactly
+pub mod Ticks
+pub mod Steps

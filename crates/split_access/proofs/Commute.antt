@@ -1,0 +1,109 @@
+-- Two steps in either order: two events of which one is quiet, and an event and a half access. Same answers, same machine.
+-- An event raises bits that the half neither shows nor clears, and changes nothing else that the half looks at. Assumes nothing.
+use mathlib.Core.Bool.{Bool, true, false, not, cond, _&&_, _||_}
+use mathlib.Core.List.{List, [], _∷_}
+use mathlib.Core.Path.{_≡_, refl, sym, _∙_, ap}
+use Prim.Native.Nat.{ℕ, _<_, _^_, _-_}
+use lib.Bits.{bitAnd, bitOr}
+use lib.Dec.{eqb}
+use Rattle.bits.proofs.Algebra.{or-swap}
+use Rattle.runs.proofs.Runs.{Commute}
+use Rattle.platform.specs.declared.settings.Settings.{Settings}
+use Rattle.machine.specs.declared.Machine.{Machine}
+use Rattle.machine.specs.Fields.{withEvent, withGpe}
+use Rattle.model.specs.Step.{answerTo, after}
+use Rattle.model.specs.declared.Answer.{Answer}
+use Rattle.model.specs.declared.Event.{Event}
+use Rattle.model.specs.declared.Step.{Step}
+use Rattle.model.specs.declared.Step.the-variants as step
+use Rattle.split_access.proofs.Effects.{Effect, affected, effectOf, Affects, On, event-affects}
+
+-- ---- two events
+
+-- a fixed answer, a fixed mask, and nothing of the button, hold or the counter
+abbrev pub quietly : Answer → ℕ → (List ℕ → List ℕ) → (List ℕ → List ℕ) → Effect
+quietly a mask gpe0 gpe1 =
+    record {
+      answer = λ b. a;
+      mask = λ b h c. mask;
+      button = λ b. b;
+      hold = λ b h c. h;
+      counter = λ b h c. c;
+      off = λ b h c. false;
+      gpe0 = gpe0;
+      gpe1 = gpe1;
+    }
+
+pub record Quiet (s : Settings) (e : Event) : Type 0 where
+  pub answer : Answer
+  pub mask : ℕ
+  pub gpe0 : List ℕ → List ℕ
+  pub gpe1 : List ℕ → List ℕ
+  pub is : effectOf s e ≡ quietly answer mask gpe0 gpe1
+
+-- no general event
+pub record GpeKept (s : Settings) (e : Event) : Type 0 where
+  pub first : effectOf s e .gpe0 ≡ (λ xs. xs)
+  pub second : effectOf s e .gpe1 ≡ (λ xs. xs)
+
+effects-commute : (m : Machine) (a : Answer) (k : ℕ) (f g : List ℕ → List ℕ) (e : Effect) → e .gpe0 ≡ (λ xs. xs) → e .gpe1 ≡ (λ xs. xs)
+    → affected e (affected (quietly a k f g) m) ≡ affected (quietly a k f g) (affected e m)
+effects-commute m a k f g e p q =
+    let mask = e .mask (m .button) (m .hold) (m .counter) in
+    let status : bitOr (bitOr (m .«pm1_sts») k) mask ≡ bitOr (bitOr (m .«pm1_sts») mask) k = or-swap (m .«pm1_sts») k mask in
+    let first : e .gpe0 (f (m .«gpe0_sts»)) ≡ f (e .gpe0 (m .«gpe0_sts»)) = rw p refl in
+    let second : e .gpe1 (g (m .«gpe1_sts»)) ≡ g (e .gpe1 (m .«gpe1_sts»)) = rw q refl in
+    λ i. withGpe (withEvent (affected e (affected (quietly a k f g) m)) (status i) (m .«pm1_en»)) (first i) (m .«gpe0_en») (second i) (m .«gpe1_en»)
+
+-- one of the two is quiet, and the other no general event
+pub data Apart (s : Settings) (g b : Event) : Type 0 where
+  quiet-first : Quiet s g → GpeKept s b → Apart s g b
+  quiet-second : GpeKept s g → Quiet s b → Apart s g b
+
+-- what the two orders share, from what each event does to each machine on the way
+module _ (m : Machine) (g b : Event) where
+  orders-meet : (s₁ s₂ end : Machine)
+      → after m (step.Event g) ≡ s₁ → after m (step.Event b) ≡ s₂
+      → answerTo m (step.Event g) ≡ answerTo s₂ (step.Event g)
+      → answerTo s₁ (step.Event b) ≡ answerTo m (step.Event b)
+      → after s₁ (step.Event b) ≡ end → after s₂ (step.Event g) ≡ end
+      → Commute answerTo after m (step.Event g) (step.Event b)
+  orders-meet s₁ s₂ end to-1 to-2 same-g same-b end-1 end-2 =
+      (rw to-2 same-g, rw to-1 same-b, rw (to-1, to-2) (end-1 ∙ sym end-2))
+
+pub events-commute : (m : Machine) (g b : Event) → m .state ≡ 0 → On m g → On (affected (effectOf (m .settings) g) m) b → Apart (m .settings) g b
+    → Commute answerTo after m (step.Event g) (step.Event b) × On m b
+events-commute m g b z on-g on-b (quiet-first q kept) =
+    let Eg = effectOf (m .settings) g in
+    let Eb = effectOf (m .settings) b in
+    let on : On m b = rw (q .is) at on-b in
+    let on-g′ : On (affected Eb m) g = rw (q .is) refl in
+    let g-m = event-affects m g z on-g in
+    let b-m = event-affects m b z on in
+    let b-g = event-affects (affected Eg m) b z on-b in
+    let g-b = event-affects (affected Eb m) g z on-g′ in
+    let fixed : Eg .answer (m .button) ≡ Eg .answer (Eb .button (m .button)) = rw (q .is) refl in
+    let still : Eb .answer (Eg .button (m .button)) ≡ Eb .answer (m .button) = rw (q .is) refl in
+    let ends : affected Eb (affected Eg m) ≡ affected Eg (affected Eb m) =
+    rw (q .is) (effects-commute m (q .answer) (q .mask) (q .gpe0) (q .gpe1) Eb (kept .first) (kept .second)) in (
+      orders-meet m g b (affected Eg m) (affected Eb m) (affected Eb (affected Eg m)) (g-m .1) (b-m .1) (g-m .0 ∙ fixed ∙ sym (g-b .0))
+          (b-g .0 ∙ still ∙ sym (b-m .0)) (b-g .1) (g-b .1 ∙ sym ends),
+      on,
+    )
+events-commute m g b z on-g on-b (quiet-second kept q) =
+    let Eg = effectOf (m .settings) g in
+    let Eb = effectOf (m .settings) b in
+    let on : On m b = rw (q .is) refl in
+    let on-g′ : On (affected Eb m) g = rw (q .is) on-g in
+    let g-m = event-affects m g z on-g in
+    let b-m = event-affects m b z on in
+    let b-g = event-affects (affected Eg m) b z on-b in
+    let g-b = event-affects (affected Eb m) g z on-g′ in
+    let fixed : Eb .answer (Eg .button (m .button)) ≡ Eb .answer (m .button) = rw (q .is) refl in
+    let still : Eg .answer (m .button) ≡ Eg .answer (Eb .button (m .button)) = rw (q .is) refl in
+    let ends : affected Eb (affected Eg m) ≡ affected Eg (affected Eb m) =
+    rw (q .is) (sym (effects-commute m (q .answer) (q .mask) (q .gpe0) (q .gpe1) Eg (kept .first) (kept .second))) in (
+      orders-meet m g b (affected Eg m) (affected Eb m) (affected Eb (affected Eg m)) (g-m .1) (b-m .1) (g-m .0 ∙ still ∙ sym (g-b .0))
+          (b-g .0 ∙ fixed ∙ sym (b-m .0)) (b-g .1) (g-b .1 ∙ sym ends),
+      on,
+    )

@@ -1,0 +1,122 @@
+-- The bits that an event raises lie in its home: outside the cells of block A where it goes before, and outside those of block B where it goes after.
+-- A bit is in the homes of just one block. Assumes nothing.
+use mathlib.Core.Bool.{Bool, true, false, not, cond, _&&_}
+use mathlib.Core.Path.{_≡_, refl, sym, _∙_, ap}
+use Prim.Native.Nat.{ℕ, _+_, _*_, _-_, _%_, _^_, _≤_, _<_, min}
+use native.Mathlib.Nat.{lt-of-lt-of-le}
+use native.Mathlib.Decide.{decLt}
+use native.Mathlib.Omega.{arith}
+use borrow.Author.Tests.{eqb-true, eqb-false, not-true, not-false}
+use lib.Bits.{bitAnd, and-zero-l, and-comm, and-zero-r}
+use lib.Dec.{eqb, lit<}
+use lib.Pow.{shl-lt, pow-mono}
+use Rattle.bits.specs.Cell.{lane}
+use Rattle.bits.specs.Digit.{digit}
+use Rattle.bits.proofs.Algebra.{disjoint-digit}
+use Rattle.bits.proofs.Cells.{masked-lt}
+use Rattle.bits.proofs.Digits.{digit-and, digit-le, digit-zero, digit-not, digit-own-bit, digit-other-bit, same-digits, below-or-beyond}
+use Rattle.platform.specs.Cells.{statusCells}
+use Rattle.platform.specs.declared.settings.Settings.{Settings}
+use Rattle.machine.specs.Cells.{pwrbtnBit, slpbtnBit, rtcBit, tmrBit, hasBit, homesIn, statusIn, onesIn, covered, placed, laneAt}
+use Rattle.model.specs.Events.{fits, tmrRaised}
+use Rattle.model.specs.declared.Event.{Event}
+use Rattle.model.specs.declared.Event.the-variants as event
+use Rattle.split_access.specs.Gap.{livesInB, eventBefore}
+use Rattle.split_access.proofs.Effects.{effectOf, clockTicks}
+
+-- ---- one bit
+
+-- digit j of bit i: the bit's own, or zero
+at-bit : {P : Type 0} (i j : ℕ) → (j ≡ i → P) → (digit j (2 ^ i) ≡ 0 → P) → P
+at-bit i j own other =
+    below-or-beyond j i (λ h. other (digit-other-bit j i (λ e. omega arith)))
+    (λ h. below-or-beyond i j (λ k. other (digit-other-bit j i (λ e. omega arith))) (λ k. own (omega arith)))
+
+-- a digit that is zero: nothing in common with that bit
+bit-apart : (x i : ℕ) → digit i x ≡ 0 → bitAnd (2 ^ i) x ≡ 0
+bit-apart x i e = same-digits _ _ (λ j. digit-and j (2 ^ i) x ∙ at-bit i j (λ q. rw (q, e, digit-zero) (omega (arith, digit-own-bit i))) (λ q. rw (q, digit-zero) (omega arith)))
+
+-- something in common with the bit: its digit is one
+bit-digit : (x i : ℕ) → (bitAnd x (2 ^ i) ≡ 0 → ⊥) → digit i x ≡ 1
+bit-digit x i n =
+    below-or-beyond (digit i x) 1 (λ h. absurd (n (and-comm x (2 ^ i) ∙ bit-apart x i (omega arith)))) (λ h. omega (arith, digit-le i x))
+
+-- a bit that lives in B does not live in A
+out-of-a : (homes i : ℕ) → i < 16 → hasBit homes (2 ^ i) ≡ true → bitAnd (2 ^ i) (2 ^ 16 - 1 - homes) ≡ 0
+unfolding hasBit
+out-of-a homes i h e =
+    let one : digit i homes ≡ 1 = bit-digit homes i (eqb-false (bitAnd homes (2 ^ i)) 0 (not-true (eqb (bitAnd homes (2 ^ i)) 0) e)) in
+    bit-apart (2 ^ 16 - 1 - homes) i
+    (below-or-beyond homes (2 ^ 16) (λ small. omega (arith, digit-not 16 i homes small h))
+    (λ large. let none : 2 ^ 16 - 1 - homes ≡ 0 = omega arith in rw (none, digit-zero)))
+
+out-of-b : (homes i : ℕ) → hasBit homes (2 ^ i) ≡ false → bitAnd (2 ^ i) homes ≡ 0
+unfolding hasBit
+out-of-b homes i e = and-comm (2 ^ i) homes ∙ eqb-true (bitAnd homes (2 ^ i)) 0 (not-false (eqb (bitAnd homes (2 ^ i)) 0) e)
+
+-- ---- the cells of a block
+
+-- apart from a mask, apart from what the mask lets through
+apart-within : (k c p v : ℕ) → bitAnd k c ≡ 0 → bitAnd k (bitAnd p (bitAnd c v)) ≡ 0
+apart-within k c p v e =
+    same-digits _ _ (λ j. let d = disjoint-digit k c e j in simp (digit-and, digit-zero) (omega arith))
+
+apart-cells : (k c h : ℕ) → bitAnd k h ≡ 0 → bitAnd k (bitAnd c h) ≡ 0
+apart-cells k c h e = same-digits _ _ (λ j. let d = disjoint-digit k h e j in simp (digit-and, digit-zero) (omega arith))
+
+-- the bit, where a test holds
+bit-in-home : (s : Settings) (b : Bool) (i : ℕ) → i < 16 → hasBit (s .«event_homes») (2 ^ i) ≡ not b → (t : Bool) → bitAnd (cond t (2 ^ i) 0) (statusIn s b) ≡ 0
+bit-in-home s true i h e true = apart-cells (2 ^ i) (statusCells s) (s .«event_homes») (out-of-b (s .«event_homes») i e)
+bit-in-home s false i h e true = apart-cells (2 ^ i) (statusCells s) (2 ^ 16 - 1 - s .«event_homes») (out-of-a (s .«event_homes») i h e)
+bit-in-home s b i h e false = and-zero-l (statusIn s b)
+
+-- ---- each event
+
+abbrev pub maskOf : Settings → Event → Bool → ℕ → ℕ → ℕ
+maskOf s e = effectOf s e .mask
+
+-- an event that goes before raises nothing of A's, one that goes after nothing of B's
+pub raises-at-home : (s : Settings) (e : Event) (b : Bool) → eventBefore s e ≡ not b → (button : Bool) (hold counter : ℕ) → bitAnd (maskOf s e button hold counter) (statusIn s b) ≡ 0
+unfolding livesInB tmrRaised
+raises-at-home s event.Press b e button hold counter = bit-in-home s b 8 (lit< tt) e (fits s pwrbtnBit && not button)
+raises-at-home s event.Release b e button hold counter = and-zero-l (statusIn s b)
+raises-at-home s event.SleepPress b e button hold counter = bit-in-home s b 9 (lit< tt) e (fits s slpbtnBit)
+raises-at-home s event.Alarm b e button hold counter = bit-in-home s b 10 (lit< tt) e (fits s rtcBit)
+raises-at-home s event.PcieWake b e button hold counter = and-zero-l (statusIn s b)
+raises-at-home s event.BusMaster b e button hold counter = bit-in-home s b 4 (lit< tt) e true
+raises-at-home s event.Unlock b e button hold counter = bit-in-home s b 5 (lit< tt) e true
+raises-at-home s (event.General k) b e button hold counter = and-zero-l (statusIn s b)
+raises-at-home s (event.Ticks n) b e button hold counter = bit-in-home s b 0 (lit< tt) e (fits s tmrBit && not (eqb (clockTicks s n button hold counter .turns) 0))
+
+bit-small : (t : Bool) (x : ℕ) → x < 2 ^ 16 → cond t x 0 < 2 ^ 16
+bit-small true x h = h
+bit-small false x h = lit< tt
+
+pub raises-small : (s : Settings) (e : Event) (button : Bool) (hold counter : ℕ) → maskOf s e button hold counter < 2 ^ 16
+unfolding tmrRaised
+raises-small s event.Press button hold counter = bit-small (fits s pwrbtnBit && not button) pwrbtnBit (lit< tt)
+raises-small s event.Release button hold counter = lit< tt
+raises-small s event.SleepPress button hold counter = bit-small (fits s slpbtnBit) slpbtnBit (lit< tt)
+raises-small s event.Alarm button hold counter = bit-small (fits s rtcBit) rtcBit (lit< tt)
+raises-small s event.PcieWake button hold counter = lit< tt
+raises-small s event.BusMaster button hold counter = lit< tt
+raises-small s event.Unlock button hold counter = lit< tt
+raises-small s (event.General k) button hold counter = lit< tt
+raises-small s (event.Ticks n) button hold counter = bit-small (fits s tmrBit && not (eqb (clockTicks s n button hold counter .turns) 0)) tmrBit (lit< tt)
+
+-- ---- the ones of a write
+
+covered-small : (width offset : ℕ) → covered width offset < 2 ^ 16
+covered-small width offset = go (eqb width 1)
+  where
+    go : (t : Bool) → cond t (lane (laneAt offset) 255) (2 ^ 16 - 1) < 2 ^ 16
+    go true =
+        let low : 8 + 8 * laneAt offset ≤ 16 = omega arith in
+        lt-of-lt-of-le (shl-lt 8 (8 * laneAt offset) (lit< tt)) (pow-mono low)
+    go false = lit< tt
+
+pub ones-small : (s : Settings) (b : Bool) (width offset written : ℕ) → onesIn s b width offset written < 2 ^ 16
+ones-small s b width offset written = masked-lt 16 (placed offset written) (bitAnd (statusIn s b) (covered width offset)) (masked-lt 16 (statusIn s b) (covered width offset) (covered-small width offset))
+
+pub ones-at-home : (s : Settings) (b : Bool) (width offset written mask : ℕ) → bitAnd mask (statusIn s b) ≡ 0 → bitAnd mask (onesIn s b width offset written) ≡ 0
+ones-at-home s b width offset written mask e = apart-within mask (statusIn s b) (placed offset written) (covered width offset) e

@@ -1,0 +1,40 @@
+-- A port written as a block's address plus an offset leads to that block: it is inside it, and by the rule against overlaps in no other.
+-- Assumes nothing.
+use mathlib.Core.Bool.{true, false}
+use mathlib.Core.Path.{_≡_, refl, sym, _∙_}
+use Prim.Native.Nat.{ℕ, _+_, _≤_, _<_}
+use native.Mathlib.Omega.{arith}
+use lib.Dec.{lit<}
+use lib.ListN.{getD}
+use Rattle.lists.proofs.Search.{first-is}
+use Rattle.platform.specs.Blocks.{present, holds, noBlock}
+use Rattle.platform.specs.Legal.{Guaranteed, blockAt}
+use Rattle.platform.specs.Rules.{blocksOf}
+use Rattle.platform.specs.declared.settings.Settings.{Settings}
+use Rattle.platform.proofs.Legal.{holds-of}
+use Rattle.model.specs.Ports.{registers, placeAt, registerAt}
+use Rattle.model.specs.declared.Register.the-variants as register
+
+module _ (s : Settings) (legal : Guaranteed s) (offset : ℕ) where
+  place-is : (i : ℕ) → i < 9 → present (blockAt s i) ≡ true → offset < blockAt s i .length → placeAt s (blockAt s i .address + offset) ≡ i
+  place-is i h p o =
+      let port = blockAt s i .address + offset in
+      let inside : holds (blockAt s i) port ≡ true = holds-of (blockAt s i) port p (omega arith) (omega arith) in
+      first-is noBlock (λ b. holds b port) (blocksOf s) i h inside (λ j k e. legal .one-block port j i k h e inside)
+
+  register-is : (i : ℕ) → i < 9 → present (blockAt s i) ≡ true → offset < blockAt s i .length
+      → registerAt s (blockAt s i .address + offset) ≡ getD registers i register.Nowhere
+  unfolding registerAt
+  register-is i h p o = rw (place-is i h p o) refl
+
+  pub event-a : offset < s .«pm1a_evt» .length → registerAt s (s .«pm1a_evt» .address + offset) ≡ register.Event false
+  event-a o = register-is 1 (lit< tt) (legal .evt-a-present) o
+
+  pub event-b : present (s .«pm1b_evt») ≡ true → offset < s .«pm1a_evt» .length → registerAt s (s .«pm1b_evt» .address + offset) ≡ register.Event true
+  event-b p o =
+      let a = legal .evt-a-length (legal .evt-a-present) in
+      let b = legal .evt-b-length p in
+      register-is 2 (lit< tt) p (omega arith)
+
+  pub control-a : offset < s .«pm1a_cnt» .length → registerAt s (s .«pm1a_cnt» .address + offset) ≡ register.Control false
+  control-a o = register-is 3 (lit< tt) (legal .cnt-a-present) o

@@ -1,0 +1,84 @@
+-- "Halves and gaps": demand 3, of a set-up and a step.
+use mathlib.Core.Bool.{Bool, true, false, _&&_}
+use mathlib.Core.List.{List}
+use mathlib.Core.Path.{_≡_}
+use Prim.Native.Nat.{ℕ, _+_, _<_}
+use Rattle.lists.specs.Any.{any}
+use Rattle.runs.specs.Items.{Item, one, control, event, original, moved, stepsOf, Every, Run, Awake}
+use Rattle.platform.specs.Blocks.{present}
+use Rattle.platform.specs.declared.block.Block.{Block}
+use Rattle.platform.specs.declared.settings.Settings.{Settings}
+use Rattle.platform.specs.declared.rules.SetUpAnswer.the-variants as set-up
+use Rattle.machine.specs.declared.Machine.{Machine}
+use Rattle.machine.specs.declared.SetUp.{SetUp}
+use Rattle.model.specs.declared.Access.{Access}
+use Rattle.model.specs.declared.Answer.{Answer}
+use Rattle.model.specs.declared.Event.{Event}
+use Rattle.model.specs.declared.Step.{Step}
+use Rattle.model.specs.declared.Step.the-variants as step
+use Rattle.model.specs.declared.Stepped.{Stepped}
+use Rattle.split_access.specs.Gap.{before, isButton, isTicking}
+
+-- an access as the guest writes it: the block's address plus an offset
+abbrev pub accessAt : Block → ℕ → ℕ → Access
+accessAt b offset width = record { port = b .address + offset; width = width }
+
+-- "two bus steps, both reads or both writes, of one width at one offset, first in .. block A, then in the same block of B ..; each may write its own data"
+pub data Halves (a b : Block) : Step → Step → Type 0 where
+  reads : (offset width : ℕ) → offset < a .length → Halves a b (step.Read (accessAt a offset width)) (step.Read (accessAt b offset width))
+  writes : (offset width first second : ℕ) → offset < a .length
+      → Halves a b (step.Write (accessAt a offset width) first) (step.Write (accessAt b offset width) second)
+
+-- "any number of presses, releases, sleep presses, alarms, PCIe wakes, bus-master, unlock and general events, and ticks"
+pub data GapStep : Step → Type 0 where
+  gap-step : (e : Event) → GapStep (step.Event e)
+
+abbrev pub buttonStep : Step → Bool
+buttonStep (step.Read a) = false
+buttonStep (step.Write a written) = false
+buttonStep (step.Event e) = isButton e
+buttonStep step.Take = false
+buttonStep step.Drop = false
+
+abbrev pub tickingStep : Step → Bool
+tickingStep (step.Read a) = false
+tickingStep (step.Write a written) = false
+tickingStep (step.Event e) = isTicking e
+tickingStep step.Take = false
+tickingStep step.Drop = false
+
+-- "no gap holds both a press or release and ticks (n above zero)"
+abbrev pub mixed : List Step → Bool
+mixed gap = any buttonStep gap && any tickingStep gap
+
+pub record Gap (gap : List Step) : Type 0 where
+  pub steps : Every GapStep gap
+  pub unmixed : mixed gap ≡ false
+
+-- an item of a list, on a platform with these settings: any step, or a split access whose block B is present
+pub data ItemOn (s : Settings) : Item Step → Type 0 where
+  step-item : (x : Step) → ItemOn s (one x)
+  control-item : {h h′ : Step} {gap : List Step} → present (s .«pm1b_cnt») ≡ true → Halves (s .«pm1a_cnt») (s .«pm1b_cnt») h h′ → Gap gap
+      → ItemOn s (control h gap h′)
+  event-item : {h h′ : Step} {gap : List Step} → present (s .«pm1b_evt») ≡ true → Halves (s .«pm1a_evt») (s .«pm1b_evt») h h′ → Gap gap
+      → ItemOn s (event h gap h′)
+
+-- "Awake is S0."
+abbrev pub InS0 : Machine → Type 0
+InS0 m = m .state ≡ 0
+
+-- a machine keeps its answers and its end when the gaps' steps are moved out of the split accesses
+abbrev pub MovesFrom : (Machine → Step → Stepped) → Machine → Type 0
+MovesFrom stepped m =
+    (items : List (Item (Step × Answer))) (end : Machine)
+    → Every (ItemOn (m .settings)) (stepsOf items)
+    → Awake (λ k x. stepped k x .machine) InS0 m (stepsOf items)
+    → Run (λ k x. stepped k x .answer) (λ k x. stepped k x .machine) m (original items) end
+    → Run (λ k x. stepped k x .answer) (λ k x. stepped k x .machine) m (moved (λ p. before (m .settings) (p .0)) items) end
+
+-- "Demand 3 is one claim about a whole list": from every machine as setting up gives it
+abbrev pub Demand3 : (List ℕ → ℕ → ℕ → Bool → List (List ℕ) → SetUp) → (Machine → Step → Stepped) → Type 0
+Demand3 settled stepped =
+    (t : List ℕ) (event-homes control-homes : ℕ) (power-override : Bool) (pairs : List (List ℕ))
+    → settled t event-homes control-homes power-override pairs .answer ≡ set-up.Done
+    → MovesFrom stepped (settled t event-homes control-homes power-override pairs .machine)

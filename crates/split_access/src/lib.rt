@@ -1,0 +1,1 @@
+// Split accesses: the claims about whole lists of steps, and their proofs. There is no code here.
