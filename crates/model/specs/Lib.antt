@@ -4,3 +4,4 @@ pub mod Bus
 pub mod Events
 pub mod Firmware
 pub mod Step
+pub mod Raises

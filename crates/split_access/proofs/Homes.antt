@@ -70,6 +70,13 @@ bit-in-home s true i h e true = apart-cells (2 ^ i) (statusCells s) (s .«event_
 bit-in-home s false i h e true = apart-cells (2 ^ i) (statusCells s) (2 ^ 16 - 1 - s .«event_homes») (out-of-a (s .«event_homes») i h e)
 bit-in-home s b i h e false = and-zero-l (statusIn s b)
 
+-- the block's cells have no digit of a bit that lives in the other
+pub home-digit : (s : Settings) (b : Bool) (i : ℕ) → i < 16 → livesInB s (2 ^ i) ≡ not b → digit i (statusIn s b) ≡ 0
+unfolding livesInB
+home-digit s b i h e =
+    let apart = disjoint-digit (2 ^ i) (statusIn s b) (bit-in-home s b i h e true) i in
+    omega (arith, digit-own-bit i, digit-le i (statusIn s b))
+
 -- ---- each event
 
 abbrev pub maskOf : Settings → Event → Bool → ℕ → ℕ → ℕ

@@ -2,7 +2,7 @@
 -- Assumes nothing.
 use mathlib.Core.Bool.{true, false}
 use mathlib.Core.Path.{_≡_, refl, sym, _∙_}
-use Prim.Native.Nat.{ℕ, _+_, _≤_, _<_}
+use Prim.Native.Nat.{ℕ, _+_, _-_, _≤_, _<_}
 use native.Mathlib.Omega.{arith}
 use lib.Dec.{lit<}
 use lib.ListN.{getD}
@@ -12,7 +12,7 @@ use Rattle.platform.specs.Legal.{Guaranteed, blockAt}
 use Rattle.platform.specs.Rules.{blocksOf}
 use Rattle.platform.specs.declared.settings.Settings.{Settings}
 use Rattle.platform.proofs.Legal.{holds-of}
-use Rattle.model.specs.Ports.{registers, placeAt, registerAt}
+use Rattle.model.specs.Ports.{registers, placeAt, registerAt, offsetAt}
 use Rattle.model.specs.declared.Register.the-variants as register
 
 module _ (s : Settings) (legal : Guaranteed s) (offset : ℕ) where
@@ -27,6 +27,10 @@ module _ (s : Settings) (legal : Guaranteed s) (offset : ℕ) where
   unfolding registerAt
   register-is i h p o = rw (place-is i h p o) refl
 
+  offset-is : (i : ℕ) → i < 9 → present (blockAt s i) ≡ true → offset < blockAt s i .length → offsetAt s (blockAt s i .address + offset) ≡ offset
+  unfolding offsetAt
+  offset-is i h p o = rw (place-is i h p o) (omega arith)
+
   pub event-a : offset < s .«pm1a_evt» .length → registerAt s (s .«pm1a_evt» .address + offset) ≡ register.Event false
   event-a o = register-is 1 (lit< tt) (legal .evt-a-present) o
 
@@ -38,3 +42,12 @@ module _ (s : Settings) (legal : Guaranteed s) (offset : ℕ) where
 
   pub control-a : offset < s .«pm1a_cnt» .length → registerAt s (s .«pm1a_cnt» .address + offset) ≡ register.Control false
   control-a o = register-is 3 (lit< tt) (legal .cnt-a-present) o
+
+  pub offset-a : offset < s .«pm1a_evt» .length → offsetAt s (s .«pm1a_evt» .address + offset) ≡ offset
+  offset-a o = offset-is 1 (lit< tt) (legal .evt-a-present) o
+
+  pub offset-b : present (s .«pm1b_evt») ≡ true → offset < s .«pm1a_evt» .length → offsetAt s (s .«pm1b_evt» .address + offset) ≡ offset
+  offset-b p o =
+      let a = legal .evt-a-length (legal .evt-a-present) in
+      let b = legal .evt-b-length p in
+      offset-is 2 (lit< tt) p (omega arith)

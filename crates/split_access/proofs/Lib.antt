@@ -6,3 +6,4 @@ pub mod Free
 pub mod Sides
 pub mod Leads
 pub mod Moves
+pub mod WriteBack

@@ -114,7 +114,7 @@ module _ (s : Settings) where
   throughout-ok m [] e t = record { settings = e; state = t }
   throughout-ok m (x ∷ l) e t = (record { settings = e; state = t .0 }, throughout-ok (after m x) l (settings-kept m x ∙ e) (t .1))
 
-  all-kept : (m : Machine) (l : List Step) → m .settings ≡ s → afterAll after m l .settings ≡ s
+  pub all-kept : (m : Machine) (l : List Step) → m .settings ≡ s → afterAll after m l .settings ≡ s
   unfolding afterAll
   all-kept m [] e = e
   all-kept m (x ∷ l) e = all-kept (after m x) l (settings-kept m x ∙ e)

@@ -1,0 +1,169 @@
+-- What a step clears and raises of the status bits, told from the step and the machine before it. That the status after the step is
+-- what it does not clear, and what it raises, is `status-law` and `gpe-status-law` of `proofs/Raises.antt`.
+use mathlib.Core.Bool.{Bool, true, not, cond, _&&_, Bool·beq}
+use Prim.Native.Nat.{ℕ, _-_, _/_, _%_, _^_}
+use lib.Bits.{bitAnd, bitOr}
+use lib.Dec.{eqb}
+use Rattle.clock.specs.Clock.{ticksOf}
+use Rattle.clock.specs.declared.Clock.{Clock}
+use Rattle.platform.specs.Cells.{wideTimer}
+use Rattle.platform.specs.declared.settings.Settings.{Settings}
+use Rattle.machine.specs.declared.Machine.{Machine}
+use Rattle.model.specs.Bus.{completes, namedState}
+use Rattle.machine.specs.Cells.{bmBit, gblBit, pwrbtnBit, slpbtnBit, rtcBit, pciexpWakeBit, wakBit, hasBit, inStatus, onesIn, inGpeStatus}
+use Rattle.model.specs.Events.{inS5, inGpe0, numberIn, generalEnabled, clockOf, tmrRaised}
+use Rattle.machine.specs.Lines.{awake}
+use Rattle.machine.specs.Sleep.{lightSleep, wakeBits, pending}
+use Rattle.model.specs.Step.{registerOf, offsetOf, answerTo, accepted}
+use Rattle.model.specs.declared.Event.{Event}
+use Rattle.model.specs.declared.Event.the-variants as event
+use Rattle.model.specs.declared.Register.{Register}
+use Rattle.model.specs.declared.Register.the-variants as register
+use Rattle.model.specs.declared.Step.{Step}
+use Rattle.model.specs.declared.Step.the-variants as step
+
+-- what a rule does to status bits: it clears some, then sets some
+pub record Change : Type 0 where
+  pub cleared : ℕ
+  pub raised : ℕ
+
+abbrev pub unchanged : Change
+unchanged = record { cleared = 0; raised = 0 }
+
+abbrev pub clearing : ℕ → Change
+clearing bits = record { cleared = bits; raised = 0 }
+
+abbrev pub raising : ℕ → Change
+raising bits = record { cleared = 0; raised = bits }
+
+-- the bits where the test holds, else none
+abbrev pub bitsIf : Bool → ℕ → ℕ
+bitsIf test bits = cond test bits 0
+
+-- ---- the PM1 status bits, by the step's rule
+
+-- "Wake from S1 to S4 .. WAK is set."
+abbrev pub wakIf : Machine → Bool → ℕ
+wakIf m test = bitsIf (lightSleep (m .state) && test) wakBit
+
+-- "Press sets PWRBTN"; "a press always" wakes; "From S5 .. all PM1 .. cells .. zero, then PWRBTN set; .. WAK not set"
+unfoldable pub pressChange : Machine → Change
+pressChange m = record { cleared = bitsIf (inS5 m) (2 ^ 16 - 1); raised = bitOr (wakIf m true) pwrbtnBit }
+
+-- a sleep press or alarm wakes "if enabled (alarm in S4 only with flag 7)"
+abbrev pub signalWakes : Machine → ℕ → Bool
+signalWakes m bit = hasBit (m .«pm1_en») bit && hasBit (wakeBits (m .settings) (m .state)) bit
+
+-- "Sleep press, alarm .. set their bits"; "In S5 .. other accepted events change nothing"
+unfoldable pub signalChange : Machine → ℕ → Change
+signalChange m bit = raising (bitsIf (not (inS5 m)) (bitOr bit (wakIf m (signalWakes m bit))))
+
+-- "PCIe wake if its disable is clear, and only then is its bit set"
+unfoldable pub pcieWakeChange : Machine → Change
+pcieWakeChange m = raising (bitsIf (lightSleep (m .state) && not (hasBit (m .«pm1_en») pciexpWakeBit)) (bitOr pciexpWakeBit wakBit))
+
+-- the clock after n ticks
+abbrev pub clockAfter : Machine → ℕ → Clock
+clockAfter m n = ticksOf (wideTimer (m .settings)) (m .button) (m .settings .«power_override») n (clockOf m)
+
+-- "in S0 only: .. TMR, if fitted, is set when its top bit changes", at one of the ticks that ran; the override "clears PWRBTN"
+unfoldable pub ticksChange : Machine → ℕ → Change
+ticksChange m n =
+    record {
+      cleared = bitsIf (awake m && clockAfter m n .off) pwrbtnBit;
+      raised = bitsIf (awake m) (tmrRaised (m .settings) (clockAfter m n .turns));
+    }
+
+-- "bus-master, unlock (global lock released) .. set their bits"; a general event that wakes sets WAK
+unfoldable pub eventChange : Machine → Event → Change
+eventChange m event.Press = pressChange m
+eventChange m event.Release = unchanged
+eventChange m event.SleepPress = signalChange m slpbtnBit
+eventChange m event.Alarm = signalChange m rtcBit
+eventChange m event.PcieWake = pcieWakeChange m
+eventChange m event.BusMaster = raising bmBit
+eventChange m event.Unlock = raising gblBit
+eventChange m (event.General k) = raising (wakIf m (generalEnabled m k))
+eventChange m (event.Ticks n) = ticksChange m n
+
+-- "If on completing S1 to S4 .. already set, the machine wakes in the same step."
+unfoldable pub wakesAtOnce : Machine → Bool → ℕ → ℕ → ℕ → Bool
+wakesAtOnce m b width offset written =
+    let state = namedState m b width offset written in
+    completes m b width offset written && (lightSleep state && pending m state)
+
+-- "Writing one to a status bit clears it", in its home; a control write that wakes sets WAK
+unfoldable pub writeChange : Machine → Register → ℕ → ℕ → ℕ → Change
+writeChange m register.Smi width offset written = unchanged
+writeChange m (register.Event b) width offset written = clearing (bitsIf (inStatus offset) (onesIn (m .settings) b width offset written))
+writeChange m (register.Control b) width offset written = raising (bitsIf (wakesAtOnce m b width offset written) wakBit)
+writeChange m register.Pm2 width offset written = unchanged
+writeChange m register.Timer width offset written = unchanged
+writeChange m (register.Gpe b) width offset written = unchanged
+writeChange m register.Nowhere width offset written = unchanged
+
+-- reads and firmware steps leave the status alone
+unfoldable pub ruleChange : Machine → Step → Change
+ruleChange m (step.Read a) = unchanged
+ruleChange m (step.Write a written) = writeChange m (registerOf m a) (a .width) (offsetOf m a) written
+ruleChange m (step.Event e) = eventChange m e
+ruleChange m step.Take = unchanged
+ruleChange m step.Drop = unchanged
+
+-- a refused step changes nothing
+abbrev pub ifAccepted : Machine → Step → Change → Change
+ifAccepted m s c = cond (accepted (answerTo m s)) c unchanged
+
+-- "An accepted step raises each bit that its rule sets."
+unfoldable pub raises : Machine → Step → ℕ
+raises m s = ifAccepted m s (ruleChange m s) .raised
+
+-- .. and clears each bit that its rule clears
+unfoldable pub clears : Machine → Step → ℕ
+clears m s = ifAccepted m s (ruleChange m s) .cleared
+
+-- ---- status byte i of GPE0, or with b of GPE1, by the step's rule
+
+-- event k is GPE0's, or else GPE1's; its bit is in byte i of the block, eight events a byte
+unfoldable pub liesIn : Settings → ℕ → Bool → ℕ → Bool
+liesIn s k b i = cond (inGpe0 s k) (not b) b && eqb (numberIn s k / 8) i
+
+-- ".. general events set their bits"; "In S5 .. other accepted events change nothing"
+unfoldable pub generalBit : Machine → ℕ → Bool → ℕ → ℕ
+generalBit m k b i = bitsIf (not (inS5 m) && liesIn (m .settings) k b i) (2 ^ (numberIn (m .settings) k % 8))
+
+-- "From S5 only a press wakes: all .. GPE cells .. zero"
+unfoldable pub gpeEventChange : Machine → Event → Bool → ℕ → Change
+gpeEventChange m event.Press b i = clearing (bitsIf (inS5 m) (2 ^ 8 - 1))
+gpeEventChange m event.Release b i = unchanged
+gpeEventChange m event.SleepPress b i = unchanged
+gpeEventChange m event.Alarm b i = unchanged
+gpeEventChange m event.PcieWake b i = unchanged
+gpeEventChange m event.BusMaster b i = unchanged
+gpeEventChange m event.Unlock b i = unchanged
+gpeEventChange m (event.General k) b i = raising (generalBit m k b i)
+gpeEventChange m (event.Ticks n) b i = unchanged
+
+-- "GPE: status bytes, .. the same rules": the ones written to byte i of the block
+unfoldable pub gpeOnes : Machine → Register → ℕ → ℕ → Bool → ℕ → ℕ
+gpeOnes m register.Smi offset written b i = 0
+gpeOnes m (register.Event c) offset written b i = 0
+gpeOnes m (register.Control c) offset written b i = 0
+gpeOnes m register.Pm2 offset written b i = 0
+gpeOnes m register.Timer offset written b i = 0
+gpeOnes m (register.Gpe c) offset written b i =
+    bitsIf (Bool·beq c b && (inGpeStatus (m .settings) c offset && eqb offset i)) (bitAnd written 255)
+gpeOnes m register.Nowhere offset written b i = 0
+
+unfoldable pub gpeRuleChange : Machine → Step → Bool → ℕ → Change
+gpeRuleChange m (step.Read a) b i = unchanged
+gpeRuleChange m (step.Write a written) b i = clearing (gpeOnes m (registerOf m a) (offsetOf m a) written b i)
+gpeRuleChange m (step.Event e) b i = gpeEventChange m e b i
+gpeRuleChange m step.Take b i = unchanged
+gpeRuleChange m step.Drop b i = unchanged
+
+unfoldable pub gpeRaises : Machine → Step → Bool → ℕ → ℕ
+gpeRaises m s b i = ifAccepted m s (gpeRuleChange m s b i) .raised
+
+unfoldable pub gpeClears : Machine → Step → Bool → ℕ → ℕ
+gpeClears m s b i = ifAccepted m s (gpeRuleChange m s b i) .cleared
