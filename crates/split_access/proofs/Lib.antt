@@ -7,3 +7,6 @@ pub mod Sides
 pub mod Leads
 pub mod Moves
 pub mod WriteBack
+pub mod Platform
+pub mod Refuted
+pub mod Instance

@@ -1,3 +1,4 @@
 pub mod Gap
 pub mod Claims
 pub mod WriteBack
+pub mod Faulty

@@ -1,0 +1,202 @@
+-- Document 01's worked platform, with event homes to choose: setting up accepts its table, and gives this machine.
+-- The bytes read give the settings below, and none of the twelve lines refuses them. Assumes nothing.
+use mathlib.Core.Bool.{false}
+use mathlib.Core.List.{List, [], _∷_}
+use mathlib.Core.Path.{_≡_, refl, _∙_, ap}
+use Prim.Native.Nat.{ℕ}
+use Rattle.lists.specs.Any.{any, anyTwo, firstAt}
+use Rattle.bits.specs.Digit.{digit}
+use Rattle.bits.specs.Cell.{within}
+use Rattle.cells.specs.Cells.{flagOf, bitAt, maskOf}
+use Rattle.clock.specs.Clock.{turned, grow, overrides, tickOf}
+use Rattle.runs.specs.Items.{passing, failing, original, moved, stepsOf, Every, Run, after as afterAll, Throughout, Awake}
+use Rattle.sleep.specs.Pairs.{sleepTable, absent, outOfRange, samePair, shared, named, firstFrom}
+use Rattle.platform.specs.Answer.{firstFailing}
+use Rattle.platform.specs.Blocks.{present, holds, overlap, passesPorts}
+use Rattle.platform.specs.Rules.{hardwareReduced, wrongBlockLength, wrongGpeLength, justOneZero, lengthRefused, misaligned, placeRefused, overlapRefused, gpeRefused, commandsRefused, homeless, homesRefused, sleepPairsRefused}
+use Rattle.platform.specs.declared.block.Block.{Block}
+use Rattle.platform.specs.declared.settings.Settings.{Settings}
+use Rattle.platform.specs.declared.rules.SetUpAnswer.the-variants as set-up
+use Rattle.fadt.specs.Fields.{dword, settingsOf}
+use Rattle.fadt.specs.Table.{tableShort, standsAt, noSignature, wrongTableLength, wrongSum}
+use Rattle.machine.specs.PowerOn.{powerOn}
+use Rattle.machine.specs.Cells.{hasBit, inStatus, statusAfter, enableAfter, controlIn, coversLow, coversHigh, writtenBit}
+use Rattle.machine.specs.Lines.{awake, anyEnabled}
+use Rattle.machine.specs.Sleep.{lightSleep, wakeBits, pending, completed}
+use Rattle.machine.specs.SetUp.{setUpFrom, setUpOf}
+use Rattle.machine.specs.declared.Machine.{Machine}
+use Rattle.machine.proofs.Accepted.{accepted-machine}
+use Rattle.model.specs.Answer.{firstApplying}
+use Rattle.model.specs.Bus.{wrongWidth, dataTooWide, leadsNowhere, allowed, isTimer, commandLost, readOf, setsSlpEn, typAfter, completes, armedAfter, namesNone, bmRldAfter, gblRlsAfter, writeOf}
+use Rattle.model.specs.Events.{inS5, pressOf, signalOf, pcieWakeOf, inGpe0, inGpe1, generalRaised, generalEnabled, generalOf, tmrRaised, timed, tickedOnce, ticksOf, eventOf}
+use Rattle.model.specs.Ports.{registerAt, offsetAt}
+use Rattle.model.specs.Raises.{signalChange, pressChange, eventChange, ruleChange, raises}
+use Rattle.model.specs.Step.{answerTo, after}
+use Rattle.split_access.specs.Gap.{livesInB}
+use Rattle.split_access.specs.WriteBack.{RaisedIn}
+
+-- "length 116, revision 1, PM1 A 400/404 and B 440/444 hex, timer 408, GPE0 420 length 4, SMI_CMD B2, enable E1, disable 1E, lengths 4, 2, 0, 4;
+-- other bytes zero but signature and checksum"
+abbrev pub table : List ℕ
+table =
+    70 ∷ 65 ∷ 67 ∷ 80 ∷ 116 ∷ 0 ∷ 0 ∷ 0 ∷ 1 ∷ 234 ∷ 0 ∷ 0 ∷ 0 ∷ 0 ∷ 0 ∷ 0 ∷
+    0 ∷ 0 ∷ 0 ∷ 0 ∷ 0 ∷ 0 ∷ 0 ∷ 0 ∷ 0 ∷ 0 ∷ 0 ∷ 0 ∷ 0 ∷ 0 ∷ 0 ∷ 0 ∷
+    0 ∷ 0 ∷ 0 ∷ 0 ∷ 0 ∷ 0 ∷ 0 ∷ 0 ∷ 0 ∷ 0 ∷ 0 ∷ 0 ∷ 0 ∷ 0 ∷ 0 ∷ 0 ∷
+    178 ∷ 0 ∷ 0 ∷ 0 ∷ 225 ∷ 30 ∷ 0 ∷ 0 ∷ 0 ∷ 4 ∷ 0 ∷ 0 ∷ 64 ∷ 4 ∷ 0 ∷ 0 ∷
+    4 ∷ 4 ∷ 0 ∷ 0 ∷ 68 ∷ 4 ∷ 0 ∷ 0 ∷ 0 ∷ 0 ∷ 0 ∷ 0 ∷ 8 ∷ 4 ∷ 0 ∷ 0 ∷
+    32 ∷ 4 ∷ 0 ∷ 0 ∷ 0 ∷ 0 ∷ 0 ∷ 0 ∷ 4 ∷ 2 ∷ 0 ∷ 4 ∷ 4 ∷ 0 ∷ 0 ∷ 0 ∷
+    0 ∷ 0 ∷ 0 ∷ 0 ∷ 0 ∷ 0 ∷ 0 ∷ 0 ∷ 0 ∷ 0 ∷ 0 ∷ 0 ∷ 0 ∷ 0 ∷ 0 ∷ 0 ∷
+    0 ∷ 0 ∷ 0 ∷ 0 ∷ []
+
+-- "00 - - 52 - 70"; an absent pair is both 255
+abbrev pub pairs : List (List ℕ)
+pairs = (0 ∷ 0 ∷ []) ∷ (255 ∷ 255 ∷ []) ∷ (255 ∷ 255 ∷ []) ∷ (5 ∷ 2 ∷ []) ∷ (255 ∷ 255 ∷ []) ∷ (7 ∷ 0 ∷ []) ∷ []
+
+abbrev block : ℕ → ℕ → Block
+block address length = record { address = address; length = length }
+
+-- the settings read, with these event homes; no control homes, no override
+abbrev pub platform : ℕ → Settings
+platform homes =
+    record {
+      «smi_cmd» = 0xB2;
+      «acpi_enable» = 0xE1;
+      «acpi_disable» = 0x1E;
+      «pm1a_evt» = block 0x400 4;
+      «pm1b_evt» = block 0x440 4;
+      «pm1a_cnt» = block 0x404 2;
+      «pm1b_cnt» = block 0x444 2;
+      «pm2_cnt» = block 0 0;
+      «pm_tmr» = block 0x408 4;
+      gpe0 = block 0x420 4;
+      gpe1 = block 0 0;
+      «gpe1_base» = 0;
+      flags = 0;
+      «event_homes» = homes;
+      «control_homes» = 0;
+      «power_override» = false;
+      sleep = sleepTable pairs;
+    }
+
+abbrev zeros : List ℕ
+zeros = 0 ∷ 0 ∷ 0 ∷ 0 ∷ 0 ∷ 0 ∷ 0 ∷ 0 ∷ []
+
+-- the machine at power-on; SMI_CMD is there, so SCI_EN is clear
+abbrev pub machine : ℕ → Machine
+machine homes =
+    record {
+      settings = platform homes;
+      «pm1_sts» = 0;
+      «pm1_en» = 0;
+      «gpe0_sts» = zeros;
+      «gpe0_en» = zeros;
+      «gpe1_sts» = zeros;
+      «gpe1_en» = zeros;
+      counter = 0;
+      hold = 0;
+      button = false;
+      «command_waits» = false;
+      command = 0;
+      «gbl_rls» = false;
+      armed = false;
+      «slp_typ_a» = 0;
+      «slp_typ_b» = 0;
+      «sci_en» = false;
+      «bm_rld» = false;
+      «arb_dis» = false;
+      state = 0;
+    }
+
+settings-read : (homes : ℕ) → settingsOf table homes 0 false pairs ≡ platform homes
+unfolding dword
+settings-read homes = refl
+
+-- lines 1 to 4
+table-long : tableShort table ≡ false
+unfolding tableShort
+table-long = refl
+
+table-signed : noSignature table ≡ false
+unfolding noSignature standsAt
+table-signed = refl
+
+table-length : wrongTableLength table ≡ false
+unfolding wrongTableLength dword
+table-length = refl
+
+table-sum : wrongSum table ≡ false
+unfolding wrongSum dword
+table-sum = refl
+
+-- lines 5 to 10 and 12, with any event homes
+module _ (homes : ℕ) where
+  not-reduced : hardwareReduced (platform homes) ≡ false
+  unfolding hardwareReduced flagOf
+  not-reduced = refl
+
+  lengths-right : lengthRefused (platform homes) ≡ false
+  unfolding lengthRefused wrongBlockLength wrongGpeLength justOneZero present
+  lengths-right = refl
+
+  places-right : placeRefused (platform homes) ≡ false
+  unfolding placeRefused misaligned present any passesPorts
+  places-right = refl
+
+  none-overlap : overlapRefused (platform homes) ≡ false
+  unfolding overlapRefused anyTwo any overlap holds present
+  none-overlap = refl
+
+  gpe-right : gpeRefused (platform homes) ≡ false
+  unfolding gpeRefused present
+  gpe-right = refl
+
+  commands-right : commandsRefused (platform homes) ≡ false
+  unfolding commandsRefused
+  commands-right = refl
+
+  pairs-right : sleepPairsRefused (platform homes) ≡ false
+  unfolding sleepPairsRefused present any anyTwo absent outOfRange samePair shared
+  pairs-right = refl
+
+  -- line 11 is left
+  accepts : homesRefused (platform homes) ≡ false → setUpFrom table (platform homes) .answer ≡ set-up.Done
+  unfolding firstFailing
+  accepts e =
+      rw (table-long, table-signed, table-length, table-sum, not-reduced, lengths-right, places-right, none-overlap, gpe-right, commands-right, e, pairs-right)
+
+  pub accepted : homesRefused (platform homes) ≡ false → setUpOf table homes 0 false pairs .answer ≡ set-up.Done
+  accepted e = ap (λ s. setUpFrom table s .answer) (settings-read homes) ∙ accepts e
+
+  pub gives : homesRefused (platform homes) ≡ false → setUpOf table homes 0 false pairs .machine ≡ machine homes
+  gives e = accepted-machine table (settingsOf table homes 0 false pairs) (accepted e) ∙ ap powerOn (settings-read homes)
+
+-- ---- the two platforms
+
+-- the session's: the alarm lives in B, every other bit in A
+abbrev pub alarmInB : ℕ
+alarmInB = 0x0400
+
+-- the power button lives in B, every other bit in A
+abbrev pub pressInB : ℕ
+pressInB = 0x0100
+
+pub alarm-homes : homesRefused (platform alarmInB) ≡ false
+unfolding homesRefused homeless within present
+alarm-homes = refl
+
+pub press-homes : homesRefused (platform pressInB) ≡ false
+unfolding homesRefused homeless within present
+press-homes = refl
+
+pub alarm-accepted : setUpOf table alarmInB 0 false pairs .answer ≡ set-up.Done
+alarm-accepted = accepted alarmInB alarm-homes
+
+pub press-accepted : setUpOf table pressInB 0 false pairs .answer ≡ set-up.Done
+press-accepted = accepted pressInB press-homes
+
+-- ---- computing
+
+-- to unfold this is to unfold what a step of the machine, and a list of them, compute with
+unfoldable pub steps-compute : Unit {0}
+unfolding any firstAt digit flagOf bitAt maskOf turned grow overrides tickOf absent samePair named firstFrom present holds hasBit inStatus statusAfter enableAfter controlIn coversLow coversHigh writtenBit awake anyEnabled lightSleep wakeBits pending completed firstApplying wrongWidth dataTooWide leadsNowhere allowed isTimer commandLost readOf setsSlpEn typAfter completes armedAfter namesNone bmRldAfter gblRlsAfter writeOf inS5 pressOf signalOf pcieWakeOf inGpe0 inGpe1 generalRaised generalEnabled generalOf tmrRaised timed tickedOnce ticksOf eventOf registerAt offsetAt signalChange pressChange eventChange ruleChange raises answerTo after livesInB RaisedIn passing failing original moved stepsOf Every Run afterAll Throughout Awake
+steps-compute = tt

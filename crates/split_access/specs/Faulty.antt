@@ -1,0 +1,100 @@
+-- Two steps that were paid for and failed, and demand 3 changed in two ways. That each is wrong is shown in `proofs/Refuted.antt`.
+use mathlib.Core.Bool.{Bool, true, false, not, cond, _&&_}
+use mathlib.Core.List.{List}
+use mathlib.Core.Path.{_≡_}
+use Prim.Native.Nat.{ℕ}
+use lib.Bits.{bitAnd}
+use Rattle.bits.specs.Cell.{kept}
+use Rattle.runs.specs.Items.{Item, one, control, event, original, moved, stepsOf, Every, Run, Awake}
+use Rattle.platform.specs.Blocks.{present}
+use Rattle.platform.specs.Cells.{statusCells}
+use Rattle.platform.specs.declared.settings.Settings.{Settings}
+use Rattle.platform.specs.declared.rules.SetUpAnswer.the-variants as set-up
+use Rattle.machine.specs.Cells.{shown, placed, covered, inStatus}
+use Rattle.machine.specs.Fields.{withEvent}
+use Rattle.machine.specs.declared.Machine.{Machine}
+use Rattle.machine.specs.declared.SetUp.{SetUp}
+use Rattle.model.specs.Step.{registerOf, offsetOf, answerTo, accepted, after, stepOf}
+use Rattle.model.specs.declared.Access.{Access}
+use Rattle.model.specs.declared.Answer.{Answer}
+use Rattle.model.specs.declared.Answer.the-variants as answer
+use Rattle.model.specs.declared.Register.{Register}
+use Rattle.model.specs.declared.Register.the-variants as register
+use Rattle.model.specs.declared.Step.{Step}
+use Rattle.model.specs.declared.Step.the-variants as step
+use Rattle.model.specs.declared.Stepped.{Stepped}
+use Rattle.split_access.specs.Gap.{before}
+use Rattle.split_access.specs.Claims.{Halves, GapStep, InS0}
+
+-- ---- the steps
+
+abbrev pub isEventRegister : Register → Bool
+isEventRegister register.Smi = false
+isEventRegister (register.Event b) = true
+isEventRegister (register.Control b) = false
+isEventRegister register.Pm2 = false
+isEventRegister register.Timer = false
+isEventRegister (register.Gpe b) = false
+isEventRegister register.Nowhere = false
+
+-- the access is to the status half of block A or B
+abbrev pub atStatus : Machine → Access → Bool
+atStatus m a = isEventRegister (registerOf m a) && inStatus (offsetOf m a)
+
+-- 1: "It cleared the whole status register when the guest wrote to it."
+abbrev pub wiped : Machine → Step → Machine
+wiped m (step.Read a) = after m (step.Read a)
+wiped m (step.Write a written) = cond (atStatus m a) (withEvent m 0 (m .«pm1_en»)) (after m (step.Write a written))
+wiped m (step.Event e) = after m (step.Event e)
+wiped m step.Take = after m step.Take
+wiped m step.Drop = after m step.Drop
+
+abbrev pub clearsAll : Machine → Step → Stepped
+clearsAll m x = record { answer = answerTo m x; machine = cond (accepted (answerTo m x)) (wiped m x) m }
+
+-- 2: "It cleared only the written bits, but kept the register as one.": each block shows all of it, and clears in all of it
+abbrev pub asOne : Machine → Step → Stepped
+asOne m (step.Read a) =
+    cond (atStatus m a)
+    (record { answer = answer.Done (shown (a .width) (offsetOf m a) (bitAnd (m .«pm1_sts») (statusCells (m .settings)))); machine = m })
+    (stepOf m (step.Read a))
+asOne m (step.Write a written) =
+    let ones = bitAnd (placed (offsetOf m a) written) (bitAnd (statusCells (m .settings)) (covered (a .width) (offsetOf m a))) in
+    cond (atStatus m a)
+    (record { answer = answer.Done 0; machine = withEvent m (kept 16 (m .«pm1_sts») ones) (m .«pm1_en») })
+    (stepOf m (step.Write a written))
+asOne m (step.Event e) = stepOf m (step.Event e)
+asOne m step.Take = stepOf m step.Take
+asOne m step.Drop = stepOf m step.Drop
+
+abbrev pub oneRegister : Machine → Step → Stepped
+oneRegister m x = cond (accepted (answerTo m x)) (asOne m x) (stepOf m x)
+
+-- ---- the claims
+
+-- home A's steps, and those of no home, moved before instead of home B's
+abbrev pub otherSide : Settings → Step → Bool
+otherSide s x = not (before s x)
+
+-- an item as in demand 3, with "no gap holds both a press or release and ticks" left out
+pub data MixedItemOn (s : Settings) : Item Step → Type 0 where
+  any-step : (x : Step) → MixedItemOn s (one x)
+  any-control : {h h′ : Step} {gap : List Step} → present (s .«pm1b_cnt») ≡ true → Halves (s .«pm1a_cnt») (s .«pm1b_cnt») h h′ → Every GapStep gap
+      → MixedItemOn s (control h gap h′)
+  any-event : {h h′ : Step} {gap : List Step} → present (s .«pm1b_evt») ≡ true → Halves (s .«pm1a_evt») (s .«pm1b_evt») h h′ → Every GapStep gap
+      → MixedItemOn s (event h gap h′)
+
+-- demand 3, of these items, and with the steps that pass this test moved before an event access: `Demand3` is this of `ItemOn` and `before`
+abbrev pub MovesBy : (Settings → Item Step → Type 0) → (Settings → Step → Bool) → (Machine → Step → Stepped) → Machine → Type 0
+MovesBy On first stepped m =
+    (items : List (Item (Step × Answer))) (end : Machine)
+    → Every (On (m .settings)) (stepsOf items)
+    → Awake (λ k x. stepped k x .machine) InS0 m (stepsOf items)
+    → Run (λ k x. stepped k x .answer) (λ k x. stepped k x .machine) m (original items) end
+    → Run (λ k x. stepped k x .answer) (λ k x. stepped k x .machine) m (moved (λ p. first (m .settings) (p .0)) items) end
+
+abbrev pub Demand3By : (Settings → Item Step → Type 0) → (Settings → Step → Bool) → (List ℕ → ℕ → ℕ → Bool → List (List ℕ) → SetUp) → (Machine → Step → Stepped) → Type 0
+Demand3By On first settled stepped =
+    (t : List ℕ) (event-homes control-homes : ℕ) (power-override : Bool) (pairs : List (List ℕ))
+    → settled t event-homes control-homes power-override pairs .answer ≡ set-up.Done
+    → MovesBy On first stepped (settled t event-homes control-homes power-override pairs .machine)
