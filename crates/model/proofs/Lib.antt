@@ -3,3 +3,7 @@ pub mod Ticks
 pub mod Steps
 pub mod Raises
 pub mod Sized
+pub mod Fitted
+pub mod Kept
+pub mod Bytes
+pub mod Legal

@@ -5,3 +5,4 @@ pub mod Events
 pub mod Firmware
 pub mod Step
 pub mod Raises
+pub mod Legal

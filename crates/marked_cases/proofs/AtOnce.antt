@@ -1,0 +1,124 @@
+-- A step with its ticks at once, and the test of a row that runs it. It is the model's own step, by the closed form of n ticks, so a row
+-- that passes the test holds.
+-- Assumes nothing.
+use mathlib.Core.Bool.{Bool, true, cond, _&&_}
+use mathlib.Core.List.{List, [], _∷_}
+use mathlib.Core.Path.{_≡_, refl, sym, ap}
+use Prim.Native.Nat.{ℕ}
+use borrow.Author.Tests.{eqb-true}
+use lib.Dec.{eqb}
+use Rattle.lists.proofs.Tests.{and-left, and-right}
+use Rattle.clock.specs.AtOnce.{afterOf}
+use Rattle.platform.specs.Cells.{wideTimer}
+use Rattle.machine.specs.Lines.{awake}
+use Rattle.machine.specs.declared.Machine.{Machine}
+use Rattle.model.specs.Answer.{numberOf, valueOf}
+use Rattle.model.specs.Events.{clockOf, timed, eventOf}
+use Rattle.model.specs.Step.{doneOf, answerTo, accepted, after}
+use Rattle.model.specs.declared.Event.{Event}
+use Rattle.model.specs.declared.Event.the-variants as event
+use Rattle.model.specs.declared.Step.{Step}
+use Rattle.model.specs.declared.Step.the-variants as step
+use Rattle.model.proofs.Ticks.{ticks-closed-form}
+use Rattle.marked_cases.specs.Rows.{Expected, Registers, Row, registersOf, Gives, Holds}
+
+-- ---- one step
+
+ticksAtOnce : ℕ → Machine → Machine
+ticksAtOnce n m = cond (awake m) (timed m (afterOf (wideTimer (m .settings)) (m .button) (m .settings .«power_override») n (clockOf m))) m
+
+eventAtOnce : Machine → Event → Machine
+eventAtOnce m event.Press = eventOf m event.Press
+eventAtOnce m event.Release = eventOf m event.Release
+eventAtOnce m event.SleepPress = eventOf m event.SleepPress
+eventAtOnce m event.Alarm = eventOf m event.Alarm
+eventAtOnce m event.PcieWake = eventOf m event.PcieWake
+eventAtOnce m event.BusMaster = eventOf m event.BusMaster
+eventAtOnce m event.Unlock = eventOf m event.Unlock
+eventAtOnce m (event.General k) = eventOf m (event.General k)
+eventAtOnce m (event.Ticks n) = ticksAtOnce n m
+
+event-at-once : (m : Machine) (e : Event) → eventAtOnce m e ≡ eventOf m e
+unfolding eventAtOnce ticksAtOnce eventOf
+event-at-once m event.Press = refl
+event-at-once m event.Release = refl
+event-at-once m event.SleepPress = refl
+event-at-once m event.Alarm = refl
+event-at-once m event.PcieWake = refl
+event-at-once m event.BusMaster = refl
+event-at-once m event.Unlock = refl
+event-at-once m (event.General k) = refl
+event-at-once m (event.Ticks n) = sym (ticks-closed-form n m)
+
+doneAtOnce : Machine → Step → Machine
+doneAtOnce m (step.Read a) = doneOf m (step.Read a)
+doneAtOnce m (step.Write a written) = doneOf m (step.Write a written)
+doneAtOnce m (step.Event e) = eventAtOnce m e
+doneAtOnce m step.Take = doneOf m step.Take
+doneAtOnce m step.Drop = doneOf m step.Drop
+
+done-at-once : (m : Machine) (s : Step) → doneAtOnce m s ≡ doneOf m s
+unfolding doneAtOnce
+done-at-once m (step.Read a) = refl
+done-at-once m (step.Write a written) = refl
+done-at-once m (step.Event e) = event-at-once m e
+done-at-once m step.Take = refl
+done-at-once m step.Drop = refl
+
+-- the machine after a step
+unfoldable pub afterAtOnce : Machine → Step → Machine
+unfolding doneAtOnce eventAtOnce ticksAtOnce
+afterAtOnce m s = cond (accepted (answerTo m s)) (doneAtOnce m s) m
+
+-- .. is the model's
+pub after-at-once : (m : Machine) (s : Step) → afterAtOnce m s ≡ after m s
+unfolding afterAtOnce after
+after-at-once m s = ap (λ (x : Machine). cond (accepted (answerTo m s)) x m) (done-at-once m s)
+
+-- ---- a row
+
+unfoldable pub sameRegisters : Registers → Registers → Bool
+sameRegisters a b =
+    eqb (a .status) (b .status)
+    && (eqb (a .enable) (b .enable) && (eqb (a .counter) (b .counter) && (eqb (a .hold) (b .hold) && eqb (a .state) (b .state))))
+
+by-fields : (a b : Registers) → a .status ≡ b .status → a .enable ≡ b .enable → a .counter ≡ b .counter → a .hold ≡ b .hold
+    → a .state ≡ b .state → a ≡ b
+by-fields a b p q r s t = λ i. record { status = p i; enable = q i; counter = r i; hold = s i; state = t i }
+
+-- two numbers are equal, and the rest of the test passes
+both : (a b : ℕ) (rest : Bool) → (eqb a b && rest) ≡ true → (a ≡ b) × (rest ≡ true)
+both a b rest e = (eqb-true a b (and-left (eqb a b) rest e), and-right (eqb a b) rest e)
+
+same-registers : (a b : Registers) → sameRegisters a b ≡ true → a ≡ b
+unfolding sameRegisters
+same-registers a b e =
+    let status = both (a .status) (b .status) _ e in
+    let enable = both (a .enable) (b .enable) _ (status .1) in
+    let counter = both (a .counter) (b .counter) _ (enable .1) in
+    let hold = both (a .hold) (b .hold) (eqb (a .state) (b .state)) (counter .1) in
+    by-fields a b (status .0) (enable .0) (counter .0) (hold .0) (eqb-true (a .state) (b .state) (hold .1))
+
+-- from the machine each step gives its number and its value, and the last one leaves these registers
+unfoldable pub stepsHold : Machine → List Expected → Registers → Bool
+stepsHold m [] end = sameRegisters (registersOf m) end
+stepsHold m (x ∷ xs) end =
+    eqb (numberOf (answerTo m (x .step))) (x .number)
+    && (eqb (valueOf (answerTo m (x .step))) (x .value) && stepsHold (afterAtOnce m (x .step)) xs end)
+
+-- the test of a row
+abbrev pub rowHolds : Row → Bool
+rowHolds r = stepsHold (r .machine) (r .steps) (r .registers)
+
+steps-hold : (m : Machine) (xs : List Expected) (end : Registers) → stepsHold m xs end ≡ true → Gives m xs end
+unfolding stepsHold Gives
+steps-hold m [] end e = same-registers (registersOf m) end e
+steps-hold m (x ∷ xs) end e =
+    let a = answerTo m (x .step) in
+    let number = both (numberOf a) (x .number) _ e in
+    let value = both (valueOf a) (x .value) _ (number .1) in
+    (number .0, value .0, rw (after-at-once m (x .step)) at (steps-hold (afterAtOnce m (x .step)) xs end (value .1)))
+
+-- a row that passes holds
+pub row-holds : (r : Row) → rowHolds r ≡ true → Holds r
+row-holds r e = steps-hold (r .machine) (r .steps) (r .registers) e

@@ -1,0 +1,2 @@
+pub mod Platform
+pub mod Rows

@@ -1,0 +1,132 @@
+-- The marked cases of document 01, "Values on each side": one list of rows, and what a row claims.
+-- That each row's claim holds is `marked-cases` of `proofs/Table.antt`.
+use mathlib.Core.Bool.{true, false}
+use mathlib.Core.List.{List, [], _∷_}
+use mathlib.Core.Path.{_≡_}
+use Prim.Native.Nat.{ℕ}
+use Rattle.machine.specs.declared.Machine.{Machine}
+use Rattle.machine.specs.Fields.{withEvent, withButton, withSciEn, withTime}
+use Rattle.machine.specs.PowerOn.{powerOn}
+use Rattle.model.specs.Answer.{numberOf, valueOf}
+use Rattle.model.specs.Step.{stepOf}
+use Rattle.model.specs.declared.Event.the-variants as event
+use Rattle.model.specs.declared.Step.{Step}
+use Rattle.model.specs.declared.Step.the-variants as step
+use Rattle.marked_cases.specs.Platform.{platform}
+
+-- ---- a row
+
+-- a step, and the number and value that it is to give
+pub record Expected : Type 0 where
+  pub step : Step
+  pub number : ℕ
+  pub value : ℕ
+
+-- the registers that a row looks at
+pub record Registers : Type 0 where
+  pub status : ℕ
+  pub enable : ℕ
+  pub counter : ℕ
+  pub hold : ℕ
+  pub state : ℕ
+
+-- the machine, the steps in their order, and the registers after them
+pub record Row : Type 0 where
+  pub machine : Machine
+  pub steps : List Expected
+  pub registers : Registers
+
+abbrev pub registersOf : Machine → Registers
+registersOf m =
+    record { status = m .«pm1_sts»; enable = m .«pm1_en»; counter = m .counter; hold = m .hold; state = m .state }
+
+-- from the machine each step gives its number and its value, and the last one leaves these registers
+unfoldable pub Gives : Machine → List Expected → Registers → Type 0
+Gives m [] end = registersOf m ≡ end
+Gives m (x ∷ xs) end =
+    (numberOf (stepOf m (x .step) .answer) ≡ x .number)
+    × (valueOf (stepOf m (x .step) .answer) ≡ x .value)
+    × Gives (stepOf m (x .step) .machine) xs end
+
+-- what a row claims
+abbrev pub Holds : Row → Type 0
+Holds r = Gives (r .machine) (r .steps) (r .registers)
+
+-- ---- how the rows are written
+
+abbrev row : Machine → List Expected → Registers → Row
+row m steps end = record { machine = m; steps = steps; registers = end }
+
+-- by their order: status, enable, counter, hold and state
+abbrev left : ℕ → ℕ → ℕ → ℕ → ℕ → Registers
+left status enable counter hold state =
+    record { status = status; enable = enable; counter = counter; hold = hold; state = state }
+
+-- accepted, with the value
+infixl 70 _gives_
+abbrev _gives_ : Step → ℕ → Expected
+s gives value = record { step = s; number = 0; value = value }
+
+-- a port and a width, and the value written
+abbrev read : ℕ → ℕ → Step
+read port width = step.Read (record { port = port; width = width })
+
+abbrev write : ℕ → ℕ → ℕ → Step
+write port width written = step.Write (record { port = port; width = width }) written
+
+-- the power-on machine, with a timer of 24 bits
+abbrev narrow : Machine
+narrow = powerOn (platform false)
+
+-- .. and of 32
+abbrev wide : Machine
+wide = powerOn (platform true)
+
+-- every status bit is set
+abbrev allSet : Machine
+allSet = withEvent narrow 0xC731 0
+
+-- the counter stands so
+abbrev counting : Machine → ℕ → Machine
+counting m counter = withTime m counter 0
+
+-- the button is down, and every status bit is set
+abbrev held : ℕ → Machine
+held hold = withButton allSet true hold
+
+-- ---- the rows
+
+abbrev pub rows : List Row
+rows =
+    -- "Status C731: write FFFF gives 0000"
+    row allSet (write 0x400 2 0xFFFF gives 0 ∷ read 0x400 2 gives 0x0000 ∷ []) (left 0x0000 0 0 0 0) ∷
+    -- "0100 gives C631"
+    row allSet (write 0x400 2 0x0100 gives 0 ∷ read 0x400 2 gives 0xC631 ∷ []) (left 0xC631 0 0 0 0) ∷
+    -- "0000 keeps it"
+    row allSet (write 0x400 2 0x0000 gives 0 ∷ read 0x400 2 gives 0xC731 ∷ []) (left 0xC731 0 0 0 0) ∷
+    -- "high byte FF gives 0031"
+    row allSet (write 0x401 1 0xFF gives 0 ∷ read 0x400 2 gives 0x0031 ∷ []) (left 0x0031 0 0 0 0) ∷
+    -- "Enable write FFFF reads 4721"
+    row allSet (write 0x402 2 0xFFFF gives 0 ∷ read 0x402 2 gives 0x4721 ∷ []) (left 0xC731 0x4721 0 0 0) ∷
+    -- "Control A write FFFF, SCI_EN set, B present, reads 1C03"
+    row (withSciEn narrow true) (write 0x404 2 0xFFFF gives 0 ∷ read 0x404 2 gives 0x1C03 ∷ []) (left 0 0 0 0 0) ∷
+    -- "24-bit counter 8,388,607, one tick: TMR set"
+    row (counting narrow 8388607) (step.Event (event.Ticks 1) gives 0 ∷ read 0x400 2 gives 0x0001 ∷ []) (left 0x0001 0 8388608 0 0) ∷
+    -- "16,777,215 to 0: set"
+    row (counting narrow 16777215) (step.Event (event.Ticks 1) gives 0 ∷ read 0x400 2 gives 0x0001 ∷ []) (left 0x0001 0 0 0 0) ∷
+    -- "0 by 8,388,607: not"
+    row (counting narrow 0) (step.Event (event.Ticks 8388607) gives 0 ∷ read 0x400 2 gives 0x0000 ∷ []) (left 0x0000 0 8388607 0 0) ∷
+    -- "zero ticks: nothing"
+    row (counting narrow 8388607) (step.Event (event.Ticks 0) gives 0 ∷ read 0x400 2 gives 0x0000 ∷ []) (left 0x0000 0 8388607 0 0) ∷
+    -- "32-bit 8,388,607 by one: not"
+    row (counting wide 8388607) (step.Event (event.Ticks 1) gives 0 ∷ read 0x400 2 gives 0x0000 ∷ []) (left 0x0000 0 8388608 0 0) ∷
+    -- "Hold 14,318,179 stays S0": the tick that reaches it
+    row (held 14318178) (step.Event (event.Ticks 1) gives 0 ∷ []) (left 0xC731 0 1 14318179 0) ∷
+    -- .. and all the ticks from a press on, which turn the counter's top bit too
+    row narrow (step.Event event.Press gives 0 ∷ step.Event (event.Ticks 14318179) gives 0 ∷ []) (left 0x0101 0 14318179 14318179 0) ∷
+    -- "one more is S5", with PWRBTN cleared
+    row (held 14318179) (step.Event (event.Ticks 1) gives 0 ∷ []) (left 0xC631 0 1 14318180 5) ∷
+    -- .. and from a press on
+    row narrow (step.Event event.Press gives 0 ∷ step.Event (event.Ticks 14318179) gives 0 ∷ step.Event (event.Ticks 1) gives 0 ∷ [])
+    (left 0x0001 0 14318180 14318180 5) ∷
+    []

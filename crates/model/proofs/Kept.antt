@@ -1,0 +1,352 @@
+-- What each rule keeps, every step keeps: a property of machines that holds after each single change that the rules make holds after
+-- every step. An accepted step is a few of these changes, each with what the table of refusals and the port map say of it.
+-- Assumes nothing.
+use mathlib.Core.Bool.{Bool, true, false, not, cond, _&&_, _||_, or-true, false≢true}
+use mathlib.Core.List.{List, [], _∷_}
+use mathlib.Core.Path.{_≡_, refl, sym, _∙_}
+use Prim.Native.Nat.{ℕ, zero, suc, _+_, _%_, _<_}
+use native.Mathlib.Nat.{le-of-suc-le-suc, not-suc-le-zero, add-zero}
+use native.Mathlib.Omega.{arith}
+use borrow.Author.Tests.{eqb-true, ltb-true, not-false}
+use lib.Bits.{bitAnd}
+use lib.Dec.{eqb, ltb, lit<}
+use lib.ListN.{length, getD, drop}
+use lib.Seq.{getD-drop}
+use Rattle.lists.specs.Any.{any, firstAt}
+use Rattle.lists.proofs.Tests.{or-left, and-left, and-right}
+use Rattle.bits.specs.Cell.{kept, takenBy, within}
+use Rattle.cells.specs.Cells.{cells}
+use Rattle.sleep.specs.Pairs.{absent, named, firstFrom, stateOf}
+use Rattle.clock.specs.AtOnce.{overridden as overriddenIn, ranOf, counterAfter, holdAfter, afterOf}
+use Rattle.clock.specs.Clock.{counterBits}
+use Rattle.platform.specs.Blocks.{present, holds, noBlock}
+use Rattle.platform.specs.Cells.{statusCells, enableCells, wideTimer}
+use Rattle.platform.specs.Legal.{blockAt}
+use Rattle.platform.specs.Rules.{smiBlock, blocksOf}
+use Rattle.platform.specs.declared.block.Block.{Block}
+use Rattle.platform.specs.declared.settings.Settings.{Settings}
+use Rattle.platform.proofs.Legal.{holds-from}
+use Rattle.machine.specs.Cells.{bmBit, gblBit, pwrbtnBit, slpbtnBit, rtcBit, pciexpWakeBit, hasBit, enableIn, covered, placed, inStatus, onesIn, statusAfter, enableAfter, hasB, coversHigh, writtenBit}
+use Rattle.machine.specs.Fields.{withEvent, withControl, withCommand, withButton, withArbDis, withSciEn, withTime, enter}
+use Rattle.machine.specs.Lines.{awake}
+use Rattle.machine.specs.Sleep.{lightSleep, woken, wokenIf, pending, completed, restarted}
+use Rattle.machine.specs.declared.Machine.{Machine}
+use Rattle.model.specs.Bus.{dataTooWide, leadsNowhere, allowed, completes, namedState, typAfter, armedAfter, controlled, controlWritten, gpeWritten, writeOf}
+use Rattle.model.specs.Events.{fits, raised, inS5, pressOf, releaseOf, signalOf, pcieWakeOf, inGpe0, inGpe1, generalRaised, generalEnabled, generalOf, clockOf, tmrRaised, timed, ticksOf, eventOf}
+use Rattle.model.specs.Firmware.{isEnable, enablesAfter, sciEnAfter}
+use Rattle.model.specs.Legal.{absentPair, stateAllowed}
+use Rattle.model.specs.Ports.{registers, placeAt, registerAt, offsetAt}
+use Rattle.model.specs.Step.{registerOf, offsetOf, linesOf, doneOf, answerTo, accepted, after}
+use Rattle.model.specs.declared.Event.{Event}
+use Rattle.model.specs.declared.Event.the-variants as event
+use Rattle.model.specs.declared.Register.{Register}
+use Rattle.model.specs.declared.Register.the-variants as register
+use Rattle.model.specs.declared.Step.{Step}
+use Rattle.model.specs.declared.Step.the-variants as step
+use Rattle.model.proofs.Fitted.{zero-within, or-within, part-within, shown-within, self-within, has-within, bm-within, gbl-within, tmr-within}
+use Rattle.model.proofs.Steps.{rowApplies, zero-exactly}
+use Rattle.model.proofs.Ticks.{ticks-closed-form}
+
+-- ---- the block that a port leads to
+
+abbrev pub blockOf : Settings → Register → Block
+blockOf s register.Smi = smiBlock s
+blockOf s (register.Event b) = cond b (s .«pm1b_evt») (s .«pm1a_evt»)
+blockOf s (register.Control b) = cond b (s .«pm1b_cnt») (s .«pm1a_cnt»)
+blockOf s register.Pm2 = s .«pm2_cnt»
+blockOf s register.Timer = s .«pm_tmr»
+blockOf s (register.Gpe b) = cond b (s .gpe1) (s .gpe0)
+blockOf s register.Nowhere = noBlock
+
+-- the register's block is there, and the offset is one of its bytes
+abbrev pub Reached : Settings → Register → ℕ → Type 0
+Reached s r offset = leadsNowhere r ≡ false → (present (blockOf s r) ≡ true) × (offset < blockOf s r .length)
+
+first-found : {A : Type 0} (d : A) (f : A → Bool) (xs : List A) → firstAt f xs < length xs → f (getD xs (firstAt f xs) d) ≡ true
+unfolding firstAt
+first-found d f [] h = absurd (not-suc-le-zero h)
+first-found d f (x ∷ xs) h = go (f x) refl (first-found d f xs) h
+  where
+    go : (t : Bool) → f x ≡ t → (firstAt f xs < length xs → f (getD xs (firstAt f xs) d) ≡ true)
+        → cond t 0 (suc (firstAt f xs)) < suc (length xs) → f (getD (x ∷ xs) (cond t 0 (suc (firstAt f xs))) d) ≡ true
+    go true p more h = p
+    go false p more h = more (le-of-suc-le-suc h)
+
+module _ (s : Settings) where
+  place-block : (k : ℕ) → leadsNowhere (getD registers k register.Nowhere) ≡ false
+      → (k < 9) × (blockAt s k ≡ blockOf s (getD registers k register.Nowhere))
+  unfolding leadsNowhere
+  place-block zero e = (lit< tt, refl)
+  place-block (suc zero) e = (lit< tt, refl)
+  place-block (suc (suc zero)) e = (lit< tt, refl)
+  place-block (suc (suc (suc zero))) e = (lit< tt, refl)
+  place-block (suc (suc (suc (suc zero)))) e = (lit< tt, refl)
+  place-block (suc (suc (suc (suc (suc zero))))) e = (lit< tt, refl)
+  place-block (suc (suc (suc (suc (suc (suc zero)))))) e = (lit< tt, refl)
+  place-block (suc (suc (suc (suc (suc (suc (suc zero))))))) e = (lit< tt, refl)
+  place-block (suc (suc (suc (suc (suc (suc (suc (suc zero)))))))) e = (lit< tt, refl)
+  place-block (suc (suc (suc (suc (suc (suc (suc (suc (suc k))))))))) e =
+      let no : _≡_ {A = ℕ} 0 1 = cc in absurd (omega arith)
+
+  pub reached : (port : ℕ) → Reached s (registerAt s port) (offsetAt s port)
+  unfolding registerAt offsetAt
+  reached port n =
+      let (h, e) = place-block (placeAt s port) n in
+      let inside : holds (blockAt s (placeAt s port)) port ≡ true = first-found noBlock (λ b. holds b port) (blocksOf s) h in
+      let (p, low, high) = holds-from (blockAt s (placeAt s port)) port inside in
+      rw (← e) (p, omega arith)
+
+-- ---- the state that a pair names
+
+first-named : (Q : ℕ → Type 0) (f : List ℕ → Bool) (d : List ℕ) (ps : List (List ℕ)) (n : ℕ) → Q 0
+    → ((i : ℕ) → f (getD ps i d) ≡ true → Q (n + i)) → Q (firstFrom f n ps)
+unfolding firstFrom
+first-named Q f d [] n none found = none
+first-named Q f d (p ∷ ps) n none found =
+    go (f p) refl (first-named Q f d ps (n + 1) none (λ i e. let same : n + suc i ≡ n + 1 + i = omega arith in rw same at (found (suc i) e)))
+  where
+    go : (t : Bool) → f p ≡ t → Q (firstFrom f (n + 1) ps) → Q (cond t n (firstFrom f (n + 1) ps))
+    go true e more = rw add-zero at (found 0 e)
+    go false e more = more
+
+module _ (s : Settings) where
+  named-allowed : (b-control : Bool) (a b : ℕ) → stateAllowed s (stateOf b-control a b (s .sleep .pairs)) ≡ true
+  unfolding stateAllowed named
+  named-allowed b-control a b =
+      first-named (λ state. stateAllowed s state ≡ true) (named b-control (a ∷ b ∷ [])) absentPair (drop 1 (s .sleep .pairs)) 1 refl
+      (λ i e.
+      let found : not (absent (getD (drop 1 (s .sleep .pairs)) i absentPair)) ≡ true = and-left _ _ e in
+      let here : not (absent (getD (s .sleep .pairs) (1 + i) absentPair)) ≡ true = rw (getD-drop 1 (s .sleep .pairs) i absentPair) at found in
+      rw here (or-true (eqb (1 + i) 0 || eqb (1 + i) 5)))
+
+-- ---- the changes that the rules make
+
+-- the ticks that run of n, and the machine's counter and hold after them
+abbrev pub ranIn : Machine → ℕ → ℕ
+ranIn m n = ranOf (m .button) (m .settings .«power_override») (m .hold) n
+
+abbrev pub ticked : Machine → ℕ → Machine
+ticked m n =
+    withTime m (counterAfter (counterBits (wideTimer (m .settings))) (m .counter) (ranIn m n)) (holdAfter (m .button) (m .hold) (ranIn m n))
+
+abbrev pub overriddenBy : Machine → ℕ → Bool
+overriddenBy m n = overriddenIn (m .button) (m .settings .«power_override») (m .hold) n
+
+-- what a rule may assume where it changes the machine, and that the property outlasts the change
+pub record Keeps (P : Machine → Type 0) : Type 0 where
+  -- fitted status bits are set, any are cleared
+  pub raises : (m : Machine) (bits : ℕ) → within (statusCells (m .settings)) bits ≡ true → P m → P (raised m bits)
+  pub clears : (m : Machine) (bits : ℕ) → P m → P (withEvent m (kept 16 (m .«pm1_sts») bits) (m .«pm1_en»))
+  -- enables are written, fitted ones alone, or cleared
+  pub enables : (m : Machine) (cells : ℕ)
+      → (within (enableCells (m .settings)) (m .«pm1_en») ≡ true → within (enableCells (m .settings)) cells ≡ true)
+      → P m → P (withEvent m (m .«pm1_sts») cells)
+  -- a general event byte is written, and a general event sets its bit
+  pub bytes0 : (m : Machine) (offset written : ℕ) → offset < m .settings .gpe0 .length → written < 256 → P m → P (gpeWritten m false offset written)
+  pub bytes1 : (m : Machine) (offset written : ℕ) → offset < m .settings .gpe1 .length → written < 256 → P m → P (gpeWritten m true offset written)
+  pub general : (m : Machine) (k : ℕ) → (inGpe0 (m .settings) k || inGpe1 (m .settings) k) ≡ true → P m → P (generalRaised m k)
+  -- a command is latched, and taken
+  pub commands : (m : Machine) (written : ℕ) → present (smiBlock (m .settings)) ≡ true → written < 256 → P m → P (withCommand m true written)
+  pub takes : (m : Machine) (sci-en : Bool) → m .«command_waits» ≡ true → P m → P (withCommand (withSciEn m sci-en) false 0)
+  -- control cells are written
+  pub controls : (m : Machine) (bm-rld gbl-rls : Bool) (a b : ℕ) (armed : Bool)
+      → awake m ≡ true
+      → (m .«slp_typ_a» < 8 → a < 8)
+      → (m .«slp_typ_b» < 8 → b < 8)
+      → (hasB (m .settings) ≡ false → b ≡ m .«slp_typ_b»)
+      → (hasB (m .settings) ≡ false → armed ≡ true → m .armed ≡ true)
+      → P m → P (withControl m bm-rld gbl-rls a b armed)
+  pub arbitrates : (m : Machine) (arb-dis : Bool) → present (m .settings .«pm2_cnt») ≡ true → P m → P (withArbDis m arb-dis)
+  -- sleep and wake
+  pub sleeps : (m : Machine) (state : ℕ) → awake m ≡ true → stateAllowed (m .settings) state ≡ true → P m → P (enter m state)
+  pub wakes : (m : Machine) → lightSleep (m .state) ≡ true → P m → P (woken m)
+  -- the power button
+  pub restarts : (m : Machine) → fits (m .settings) pwrbtnBit ≡ true → P m → P (withButton (restarted m) true 0)
+  pub presses : (m : Machine) → fits (m .settings) pwrbtnBit ≡ true → P m → P (withButton m true 0)
+  pub releases : (m : Machine) → P m → P (releaseOf m)
+  -- ticks, and those with the override
+  pub ticks : (m : Machine) (n : ℕ) → awake m ≡ true → overriddenBy m n ≡ false → P m → P (ticked m n)
+  pub overrides : (m : Machine) (n : ℕ) → awake m ≡ true → overriddenBy m n ≡ true → P m → P (enter (ticked m n) 5)
+
+-- one machine or the other
+pick : (P : Machine → Type 0) (t : Bool) (x y : Machine) → (t ≡ true → P x) → (t ≡ false → P y) → P (cond t x y)
+pick P true x y p q = p refl
+pick P false x y p q = q refl
+
+-- a byte written
+byte-below : (width written : ℕ) → eqb width 1 ≡ true → dataTooWide width written ≡ false → written < 256
+unfolding dataTooWide
+byte-below width written w e = ltb-true written 256 (not-false (ltb written 256) (rw w at e))
+
+-- control writes: what they latch, and that without B control they do not arm
+typ-below : (t : Bool) (x old : ℕ) → old < 8 → cond t (x % 8) old < 8
+typ-below true x old h = omega arith
+typ-below false x old h = h
+
+typ-b-kept : (m : Machine) (b : Bool) (width offset written : ℕ) → Reached (m .settings) (register.Control b) offset → hasB (m .settings) ≡ false
+    → typAfter m b true width offset written ≡ m .«slp_typ_b»
+unfolding typAfter leadsNowhere
+typ-b-kept m true width offset written r n = absurd (false≢true (sym n ∙ r refl .0))
+typ-b-kept m false width offset written r n = refl
+
+armed-kept : (m : Machine) (b : Bool) (width offset written : ℕ) → hasB (m .settings) ≡ false → armedAfter m b width offset written ≡ true → m .armed ≡ true
+unfolding armedAfter
+armed-kept m b width offset written n = go (coversHigh width offset)
+  where
+    go : (t : Bool) → cond t (writtenBit offset written 13 && (hasB (m .settings) && not b)) (m .armed) ≡ true → m .armed ≡ true
+    go true e = absurd (false≢true (sym n ∙ and-left (hasB (m .settings)) (not b) (and-right (writtenBit offset written 13) _ e)))
+    go false e = e
+
+enables-within : (m : Machine) (b : Bool) (width offset written : ℕ) → within (enableCells (m .settings)) (m .«pm1_en») ≡ true
+    → within (enableCells (m .settings)) (enableAfter m b width offset written) ≡ true
+unfolding enableAfter
+enables-within m b width offset written e = go (inStatus offset)
+  where
+    go : (t : Bool) → within (enableCells (m .settings)) (cond t (m .«pm1_en»)
+        (takenBy 16 (m .«pm1_en») (placed offset written) (bitAnd (enableIn (m .settings) b) (covered width offset)))) ≡ true
+    go true = e
+    go false =
+        let fitted = enableCells (m .settings) in
+        or-within fitted _ _ (part-within fitted (m .«pm1_en») _ e)
+        (shown-within fitted (placed offset written) _ (part-within fitted (enableIn (m .settings) b) _ (part-within fitted fitted _ (self-within fitted))))
+
+taken-within : (m : Machine) → within (enableCells (m .settings)) (m .«pm1_en») ≡ true → within (enableCells (m .settings)) (enablesAfter m) ≡ true
+unfolding enablesAfter
+taken-within m e = go (isEnable m) (m .«sci_en»)
+  where
+    go : (t u : Bool) → within (enableCells (m .settings)) (cond t (cond u (m .«pm1_en») 0) (m .«pm1_en»)) ≡ true
+    go true true = e
+    go true false = zero-within (enableCells (m .settings))
+    go false u = e
+
+-- no line of an accepted step applies
+passes : (m : Machine) (s : Step) → accepted (answerTo m s) ≡ true → (k : ℕ) → rowApplies k (linesOf m s) ≡ false
+passes m s e = zero-exactly m s .0 (eqb-true _ _ e)
+
+module _ (P : Machine → Type 0) (keeps : Keeps P) where
+  woken-kept : (test : Bool) (m : Machine) → P m → P (wokenIf test m)
+  woken-kept test m p =
+      pick P (lightSleep (m .state) && test) (woken m) m (λ e. keeps .wakes m (and-left (lightSleep (m .state)) test e) p) (λ e. p)
+
+  -- ---- events
+
+  press-kept : (m : Machine) → fits (m .settings) pwrbtnBit ≡ true → P m → P (pressOf m)
+  unfolding pressOf
+  press-kept m f p =
+      let pressed : Machine → Type 0 = λ x. P (withButton (raised x pwrbtnBit) true 0) in
+      let fitted = has-within (statusCells (m .settings)) 8 f in
+      pick pressed (inS5 m) (restarted m) (wokenIf true m)
+      (λ e. keeps .raises (withButton (restarted m) true 0) pwrbtnBit fitted (keeps .restarts m f p))
+      (λ e. pick pressed (lightSleep (m .state) && true) (woken m) m
+      (λ e. keeps .raises (withButton (woken m) true 0) pwrbtnBit fitted
+      (keeps .presses (woken m) f (keeps .wakes m (and-left (lightSleep (m .state)) true e) p)))
+      (λ e. keeps .raises (withButton m true 0) pwrbtnBit fitted (keeps .presses m f p)))
+
+  signal-kept : (m : Machine) (bit : ℕ) → within (statusCells (m .settings)) bit ≡ true → P m → P (signalOf m bit)
+  unfolding signalOf
+  signal-kept m bit w p = pick P (inS5 m) m (wokenIf _ (raised m bit)) (λ e. p) (λ e. woken-kept _ (raised m bit) (keeps .raises m bit w p))
+
+  pcie-kept : (m : Machine) → within (statusCells (m .settings)) pciexpWakeBit ≡ true → P m → P (pcieWakeOf m)
+  unfolding pcieWakeOf
+  pcie-kept m w p =
+      pick P (lightSleep (m .state) && not (hasBit (m .«pm1_en») pciexpWakeBit)) (wokenIf true (raised m pciexpWakeBit)) m
+      (λ e. woken-kept true (raised m pciexpWakeBit) (keeps .raises m pciexpWakeBit w p)) (λ e. p)
+
+  general-kept : (m : Machine) (k : ℕ) → (inGpe0 (m .settings) k || inGpe1 (m .settings) k) ≡ true → P m → P (generalOf m k)
+  unfolding generalOf
+  general-kept m k h p =
+      pick P (inS5 m) m (wokenIf (generalEnabled m k) (generalRaised m k)) (λ e. p)
+      (λ e. woken-kept (generalEnabled m k) (generalRaised m k) (keeps .general m k h p))
+
+  ticks-kept : (m : Machine) (n : ℕ) → P m → P (ticksOf n m)
+  unfolding timed
+  ticks-kept m n p =
+      let t = afterOf (wideTimer (m .settings)) (m .button) (m .settings .«power_override») n (clockOf m) in
+      let bits = tmrRaised (m .settings) (t .turns) in
+      let w = tmr-within (m .settings) (t .turns) in
+      rw (ticks-closed-form n m)
+      (pick P (awake m) (timed m t) m
+      (λ up. pick P (overriddenBy m n) _ _
+      (λ o. keeps .clears (raised (enter (ticked m n) 5) bits) pwrbtnBit (keeps .raises (enter (ticked m n) 5) bits w (keeps .overrides m n up o p)))
+      (λ o. keeps .raises (ticked m n) bits w (keeps .ticks m n up o p)))
+      (λ e. p))
+
+  event-kept : (m : Machine) (e : Event) → accepted (answerTo m (step.Event e)) ≡ true → P m → P (eventOf m e)
+  unfolding eventOf any
+  event-kept m event.Press a p =
+      press-kept m (not-false (fits (m .settings) pwrbtnBit) (or-left _ _ (passes m (step.Event event.Press) a 28))) p
+  event-kept m event.Release a p = keeps .releases m p
+  event-kept m event.SleepPress a p =
+      signal-kept m slpbtnBit
+      (has-within _ 9 (not-false (fits (m .settings) slpbtnBit) (or-left _ _ (passes m (step.Event event.SleepPress) a 28)))) p
+  event-kept m event.Alarm a p =
+      signal-kept m rtcBit (has-within _ 10 (not-false (fits (m .settings) rtcBit) (or-left _ _ (passes m (step.Event event.Alarm) a 28)))) p
+  event-kept m event.PcieWake a p =
+      pcie-kept m (has-within _ 14 (not-false (fits (m .settings) pciexpWakeBit) (or-left _ _ (passes m (step.Event event.PcieWake) a 28)))) p
+  event-kept m event.BusMaster a p = keeps .raises m bmBit (bm-within (m .settings)) p
+  event-kept m event.Unlock a p = keeps .raises m gblBit (gbl-within (m .settings)) p
+  event-kept m (event.General k) a p =
+      general-kept m k (not-false _ (or-left _ _ (passes m (step.Event (event.General k)) a 29))) p
+  event-kept m (event.Ticks n) a p = ticks-kept m n p
+
+  -- ---- writes
+
+  module _ (m : Machine) (width offset written : ℕ) (up : awake m ≡ true) (p : P m) where
+    event-write-kept : (b : Bool) → P (withEvent m (statusAfter m b width offset written) (enableAfter m b width offset written))
+    unfolding statusAfter
+    event-write-kept b = go (inStatus offset)
+      where
+        done : P (withEvent m (m .«pm1_sts») (enableAfter m b width offset written))
+        done = keeps .enables m (enableAfter m b width offset written) (enables-within m b width offset written) p
+
+        go : (t : Bool) → P (withEvent m (cond t (kept 16 (m .«pm1_sts») (onesIn (m .settings) b width offset written)) (m .«pm1_sts»)) (enableAfter m b width offset written))
+        go true = keeps .clears (withEvent m (m .«pm1_sts») (enableAfter m b width offset written)) (onesIn (m .settings) b width offset written) done
+        go false = done
+
+    controlled-kept : (b : Bool) → Reached (m .settings) (register.Control b) offset → P (controlled m b width offset written)
+    unfolding typAfter
+    controlled-kept b r =
+        keeps .controls m _ _ _ _ _ up (typ-below (not b && coversHigh width offset) _ _) (typ-below (b && coversHigh width offset) _ _)
+        (typ-b-kept m b width offset written r) (armed-kept m b width offset written) p
+
+    control-kept : (b : Bool) → Reached (m .settings) (register.Control b) offset → P (controlWritten m b width offset written)
+    unfolding completed awake
+    control-kept b r =
+        let x = controlled m b width offset written in
+        let state = namedState m b width offset written in
+        pick P (completes m b width offset written) (completed x state) x
+        (λ e. woken-kept (pending x state) (enter x state) (keeps .sleeps x state up (named-allowed (m .settings) _ _ _) (controlled-kept b r)))
+        (λ e. controlled-kept b r)
+
+    write-kept : (r : Register) → Reached (m .settings) r offset → dataTooWide width written ≡ false → allowed r width offset ≡ true
+        → P (writeOf m r width offset written)
+    unfolding writeOf leadsNowhere allowed
+    write-kept register.Smi r d a = keeps .commands m written (r refl .0) (byte-below width written a d) p
+    write-kept (register.Event b) r d a = event-write-kept b
+    write-kept (register.Control b) r d a = control-kept b r
+    write-kept register.Pm2 r d a = keeps .arbitrates m (eqb (written % 2) 1) (r refl .0) p
+    write-kept register.Timer r d a = p
+    write-kept (register.Gpe false) r d a = keeps .bytes0 m offset written (r refl .1) (byte-below width written a d) p
+    write-kept (register.Gpe true) r d a = keeps .bytes1 m offset written (r refl .1) (byte-below width written a d) p
+    write-kept register.Nowhere r d a = p
+
+  -- ---- every step
+
+  done-kept : (m : Machine) (s : Step) → accepted (answerTo m s) ≡ true → P m → P (doneOf m s)
+  unfolding any
+  done-kept m (step.Read a) e p = p
+  done-kept m (step.Write a written) e p =
+      let row = passes m (step.Write a written) e in
+      write-kept m (a .width) (offsetOf m a) written (not-false (awake m) (or-left _ _ (row 20))) p (registerOf m a) (reached (m .settings) (a .port))
+      (or-left _ _ (row 22)) (not-false _ (or-left _ _ (row 24)))
+  done-kept m (step.Event x) e p = event-kept m x e p
+  done-kept m step.Take e p =
+      keeps .takes (withEvent m (m .«pm1_sts») (enablesAfter m)) (sciEnAfter m) (not-false _ (or-left _ _ (passes m step.Take e 31)))
+      (keeps .enables m (enablesAfter m) (taken-within m) p)
+  done-kept m step.Drop e p =
+      keeps .controls m (m .«bm_rld») false (m .«slp_typ_a») (m .«slp_typ_b») (m .armed) (not-false _ (or-left _ _ (passes m step.Drop e 20)))
+      (λ h. h) (λ h. h) (λ n. refl) (λ n h. h) p
+
+  pub kept-by-steps : (m : Machine) (s : Step) → P m → P (after m s)
+  unfolding after
+  kept-by-steps m s p = pick P (accepted (answerTo m s)) (doneOf m s) m (λ e. done-kept m s e p) (λ e. p)

@@ -1,0 +1,554 @@
+-- Setting up gives legal machines, and every step keeps them legal. Each clause is kept by each change that the rules make, and so,
+-- by `kept-by-steps`, by every step.
+-- Assumes nothing.
+use mathlib.Core.Bool.{Bool, true, false, not, cond, _&&_, _||_, or-true, false≢true}
+use mathlib.Core.List.{List}
+use mathlib.Core.Path.{_≡_, refl, sym, _∙_, ap}
+use Prim.Native.Nat.{ℕ, _+_, _-_, _/_, _%_, _^_, _≤_, _<_, min}
+use native.Mathlib.Nat.{mod-lt}
+use native.Mathlib.Omega.{arith}
+use borrow.Author.Tests.{eqb-false, ne-eqb, ltb-true, lt-ltb, leb-true, leb-false, le-leb, not-true}
+use lib.Dec.{eqb, ltb, leb, lit<, lit≤}
+use lib.Pow.{pow-pos}
+use Rattle.lists.proofs.Tests.{and-left, and-right, and-other}
+use Rattle.clock.specs.AtOnce.{overridden as overriddenIn, ranOf, counterAfter, holdAfter}
+use Rattle.clock.specs.Clock.{counterBits, holdLimit}
+use Rattle.platform.specs.Blocks.{present}
+use Rattle.platform.specs.Cells.{statusCells, enableCells, wideTimer}
+use Rattle.platform.specs.Legal.{legalSettings, Guaranteed}
+use Rattle.platform.specs.Rules.{eventCount}
+use Rattle.platform.specs.declared.rules.SetUpAnswer.the-variants as answer
+use Rattle.platform.specs.declared.settings.Settings.{Settings}
+use Rattle.platform.proofs.Legal.{legal-guaranteed}
+use Rattle.machine.specs.Cells.{wakBit, hasB}
+use Rattle.machine.specs.Lines.{awake}
+use Rattle.machine.specs.PowerOn.{powerOn}
+use Rattle.machine.specs.SetUp.{setUpOf}
+use Rattle.machine.specs.Sleep.{lightSleep}
+use Rattle.machine.specs.declared.Machine.{Machine}
+use Rattle.machine.proofs.Accepted.{accepted-machine, accepted-legal}
+use Rattle.model.specs.Bus.{gpeWritten}
+use Rattle.model.specs.Events.{inS5, inGpe0, inGpe1, generalRaised}
+use Rattle.model.specs.Legal.{onlyIf, statusLegal, enablesLegal, bytesLegal, gpeLegal, arbDisLegal, stateAllowed, stateLegal, counterLegal, holdLegal, buttonLegal, commandLegal, commandByteLegal, armedLegal, slpTypBLegal, slpTypsLegal, legal}
+use Rattle.model.specs.Step.{after}
+use Rattle.model.specs.declared.Step.{Step}
+use Rattle.model.proofs.Bytes.{Bytes, bytes-mean, mean-bytes, no-bytes, bytes-with-bit, even-length, status-written, enable-written}
+use Rattle.model.proofs.Fitted.{zero-within, or-within, part-within, wak-within}
+use Rattle.model.proofs.Kept.{ticked, overriddenBy, Keeps, kept-by-steps}
+use Rattle.model.proofs.LinesExactly.{awake-exactly}
+use Rattle.model.proofs.Steps.{settings-kept}
+
+-- ---- tests
+
+pub only-if : (a b : Bool) → onlyIf a b ≡ true → a ≡ true → b ≡ true
+only-if true b e h = e
+only-if false b e h = absurd (false≢true h)
+
+pub only-of : (a b : Bool) → (a ≡ true → b ≡ true) → onlyIf a b ≡ true
+only-of true b h = h refl
+only-of false b h = refl
+
+both : (a b : Bool) → a ≡ true → b ≡ true → (a && b) ≡ true
+both a b p q = rw (p, q) refl
+
+parts : (a b : Bool) → (a && b) ≡ true → (a ≡ true) × (b ≡ true)
+parts a b e = (and-left a b e, and-right a b e)
+
+-- ---- the PM1 cells
+
+abbrev Pm1 : Machine → Type 0
+Pm1 m = (statusLegal m ≡ true) × (enablesLegal m ≡ true)
+
+pm1-keeps : Keeps Pm1
+unfolding statusLegal enablesLegal generalRaised
+pm1-keeps =
+    record {
+      raises = λ m bits w p. (or-within (statusCells (m .settings)) (m .«pm1_sts») bits (p .0) w, p .1);
+      clears = λ m bits p. (part-within (statusCells (m .settings)) (m .«pm1_sts») _ (p .0), p .1);
+      enables = λ m cells w p. (p .0, w (p .1));
+      bytes0 = λ m offset written o w p. p;
+      bytes1 = λ m offset written o w p. p;
+      general = λ m k h p. p;
+      commands = λ m written s w p. p;
+      takes = λ m sci-en w p. p;
+      controls = λ m bm-rld gbl-rls a b armed up la lb nb na p. p;
+      arbitrates = λ m arb-dis s p. p;
+      sleeps = λ m state up a p. p;
+      wakes = λ m l p. (or-within (statusCells (m .settings)) (m .«pm1_sts») wakBit (p .0) (wak-within (m .settings)), p .1);
+      restarts = λ m f p. (zero-within (statusCells (m .settings)), zero-within (enableCells (m .settings)));
+      presses = λ m f p. p;
+      releases = λ m p. p;
+      ticks = λ m n up o p. p;
+      overrides = λ m n up o p. p;
+    }
+
+-- ---- sleep
+
+abbrev Sleep : Machine → Type 0
+Sleep m = (stateLegal m ≡ true) × (armedLegal m ≡ true)
+
+-- arming needs B control, or was there before
+armed-written : (m : Machine) (armed : Bool) → awake m ≡ true → (hasB (m .settings) ≡ false → armed ≡ true → m .armed ≡ true) → armedLegal m ≡ true
+    → onlyIf armed (awake m && hasB (m .settings)) ≡ true
+unfolding armedLegal
+armed-written m armed up na p = only-of armed _ (λ e. both (awake m) (hasB (m .settings)) up (go e (hasB (m .settings)) refl))
+  where
+    go : armed ≡ true → (t : Bool) → hasB (m .settings) ≡ t → hasB (m .settings) ≡ true
+    go e true q = q
+    go e false q = and-right (awake m) (hasB (m .settings)) (only-if (m .armed) _ p (na q e))
+
+sleep-keeps : Keeps Sleep
+unfolding stateAllowed armedLegal awake generalRaised
+sleep-keeps =
+    record {
+      raises = λ m bits w p. p;
+      clears = λ m bits p. p;
+      enables = λ m cells w p. p;
+      bytes0 = λ m offset written o w p. p;
+      bytes1 = λ m offset written o w p. p;
+      general = λ m k h p. p;
+      commands = λ m written s w p. p;
+      takes = λ m sci-en w p. p;
+      controls = λ m bm-rld gbl-rls a b armed up la lb nb na p. (p .0, armed-written m armed up na (p .1));
+      arbitrates = λ m arb-dis s p. p;
+      sleeps = λ m state up a p. (a, refl);
+      wakes = λ m l p. (refl, refl);
+      restarts = λ m f p. (refl, refl);
+      presses = λ m f p. p;
+      releases = λ m p. p;
+      ticks = λ m n up o p. p;
+      overrides = λ m n up o p. (refl, refl);
+    }
+
+-- ---- the power button
+
+-- hold at most its limit, and below it outside S5 with the override fitted
+abbrev Held : Machine → Type 0
+Held m = (m .hold ≤ holdLimit) × (m .settings .«power_override» ≡ true → (m .state ≡ 5 → ⊥) → m .hold < holdLimit)
+
+hold-held : (m : Machine) → holdLegal m ≡ true → Held m
+unfolding holdLegal inS5
+hold-held m e = (
+  leb-true (m .hold) holdLimit (and-left _ _ e),
+  λ o n. ltb-true (m .hold) holdLimit
+      (only-if (m .settings .«power_override» && not (eqb (m .state) 5)) _ (and-right (leb (m .hold) holdLimit) _ e)
+      (both (m .settings .«power_override») (not (eqb (m .state) 5)) o (ap not (ne-eqb (m .state) 5 n)))),
+)
+
+held-hold : (m : Machine) → Held m → holdLegal m ≡ true
+unfolding holdLegal inS5
+held-hold m p =
+    both (leb (m .hold) holdLimit) _ (le-leb (m .hold) holdLimit (p .0))
+    (only-of (m .settings .«power_override» && not (eqb (m .state) 5)) _
+    (λ e. lt-ltb (m .hold) holdLimit (p .1 (and-left _ _ e) (eqb-false (m .state) 5 (not-true _ (and-right (m .settings .«power_override») _ e))))))
+
+hold-at-most : (down : Bool) (h n : ℕ) → h ≤ holdLimit → holdAfter down h n ≤ holdLimit
+unfolding holdAfter
+hold-at-most down h n l = go (down && ltb h holdLimit)
+  where
+    go : (t : Bool) → cond t (min holdLimit (h + n)) h ≤ holdLimit
+    go true = omega arith
+    go false = l
+
+-- no override among the ticks: hold stays below the limit
+hold-below : (down : Bool) (h n : ℕ) → overriddenIn down true h n ≡ false → h < holdLimit → holdAfter down h (ranOf down true h n) < holdLimit
+unfolding overriddenIn ranOf holdAfter
+hold-below true h n o l =
+    let reach : leb holdLimit (h + n) ≡ false = and-other (ltb h holdLimit) (leb holdLimit (h + n)) o (lt-ltb h holdLimit l) in
+    let below : h + n < holdLimit = leb-false holdLimit (h + n) reach in
+    rw (lt-ltb h holdLimit l, reach) (omega arith)
+hold-below false h n o l = l
+
+held-ticked : (m : Machine) (n : ℕ) → overriddenBy m n ≡ false → m .settings .«power_override» ≡ true → m .hold < holdLimit → ticked m n .hold < holdLimit
+held-ticked m n o f l = rw f (hold-below (m .button) (m .hold) n (rw f at o) l)
+
+awake-not-5 : (m : Machine) → awake m ≡ true → m .state ≡ 5 → ⊥
+awake-not-5 m up e = omega (arith, awake-exactly m .0 up)
+
+light-not-5 : (x : ℕ) → lightSleep x ≡ true → x ≡ 5 → ⊥
+unfolding lightSleep
+light-not-5 x l e = omega (arith, leb-true x 4 (and-right (leb 1 x) (leb x 4) l))
+
+abbrev Button : Machine → Type 0
+Button m = (buttonLegal m ≡ true) × Held m
+
+button-keeps : Keeps Button
+unfolding buttonLegal generalRaised
+button-keeps =
+    record {
+      raises = λ m bits w p. p;
+      clears = λ m bits p. p;
+      enables = λ m cells w p. p;
+      bytes0 = λ m offset written o w p. p;
+      bytes1 = λ m offset written o w p. p;
+      general = λ m k h p. p;
+      commands = λ m written s w p. p;
+      takes = λ m sci-en w p. p;
+      controls = λ m bm-rld gbl-rls a b armed up la lb nb na p. p;
+      arbitrates = λ m arb-dis s p. p;
+      sleeps = λ m state up a p. (p .0, (p .1 .0, λ o n. p .1 .1 o (awake-not-5 m up)));
+      wakes = λ m l p. (p .0, (p .1 .0, λ o n. p .1 .1 o (light-not-5 (m .state) l)));
+      restarts = λ m f p. (f, (lit≤ tt, λ o n. lit< tt));
+      presses = λ m f p. (f, (lit≤ tt, λ o n. lit< tt));
+      releases = λ m p. (refl, p .1);
+      ticks = λ m n up o p. (p .0, (hold-at-most (m .button) (m .hold) _ (p .1 .0), λ f u. held-ticked m n o f (p .1 .1 f (awake-not-5 m up))));
+      overrides = λ m n up o p. (p .0, (hold-at-most (m .button) (m .hold) _ (p .1 .0), λ f u. absurd (u refl)));
+    }
+
+-- ---- the counter
+
+abbrev Counter : Machine → Type 0
+Counter m = counterLegal m ≡ true
+
+counter-below : (k counter n : ℕ) → counter < 2 ^ k → counterAfter k counter n < 2 ^ k
+unfolding counterAfter
+counter-below k counter n h = go (eqb n 0)
+  where
+    go : (t : Bool) → cond t counter ((counter + n) % 2 ^ k) < 2 ^ k
+    go true = h
+    go false = mod-lt (counter + n) (pow-pos k)
+
+counter-ticked : (m : Machine) (n : ℕ) → counterLegal m ≡ true → counterLegal (ticked m n) ≡ true
+unfolding counterLegal
+counter-ticked m n p =
+    let k = counterBits (wideTimer (m .settings)) in
+    lt-ltb _ (2 ^ k) (counter-below k (m .counter) _ (ltb-true (m .counter) (2 ^ k) p))
+
+counter-keeps : Keeps Counter
+unfolding counterLegal generalRaised
+counter-keeps =
+    record {
+      raises = λ m bits w p. p;
+      clears = λ m bits p. p;
+      enables = λ m cells w p. p;
+      bytes0 = λ m offset written o w p. p;
+      bytes1 = λ m offset written o w p. p;
+      general = λ m k h p. p;
+      commands = λ m written s w p. p;
+      takes = λ m sci-en w p. p;
+      controls = λ m bm-rld gbl-rls a b armed up la lb nb na p. p;
+      arbitrates = λ m arb-dis s p. p;
+      sleeps = λ m state up a p. p;
+      wakes = λ m l p. p;
+      restarts = λ m f p. p;
+      presses = λ m f p. p;
+      releases = λ m p. p;
+      ticks = λ m n up o p. counter-ticked m n p;
+      overrides = λ m n up o p. counter-ticked m n p;
+    }
+
+-- ---- commands
+
+abbrev Commands : Machine → Type 0
+Commands m = (commandLegal m ≡ true) × (commandByteLegal m ≡ true)
+
+-- a command waits: SMI_CMD is there
+waits-smi : (m : Machine) → m .«command_waits» ≡ true → commandLegal m ≡ true → eqb (m .settings .«smi_cmd») 0 ≡ false
+unfolding commandLegal
+waits-smi m w p = go (eqb (m .settings .«smi_cmd») 0) refl
+  where
+    go : (t : Bool) → eqb (m .settings .«smi_cmd») 0 ≡ t → eqb (m .settings .«smi_cmd») 0 ≡ false
+    go false e = e
+    go true e =
+        let none = and-left (not (m .«command_waits»)) (m .«sci_en») (only-if _ _ p e) in
+        absurd (false≢true (sym (not-true _ none) ∙ w))
+
+commands-keep : Keeps Commands
+unfolding commandLegal commandByteLegal present generalRaised
+commands-keep =
+    record {
+      raises = λ m bits w p. p;
+      clears = λ m bits p. p;
+      enables = λ m cells w p. p;
+      bytes0 = λ m offset written o w p. p;
+      bytes1 = λ m offset written o w p. p;
+      general = λ m k h p. p;
+      commands = λ m written s w p. (rw (not-true (eqb (m .settings .«smi_cmd») 0) s) refl, rw (lt-ltb written 256 w) refl);
+      takes = λ m sci-en w p. (rw (waits-smi m w (p .0)) refl, refl);
+      controls = λ m bm-rld gbl-rls a b armed up la lb nb na p. p;
+      arbitrates = λ m arb-dis s p. p;
+      sleeps = λ m state up a p. p;
+      wakes = λ m l p. p;
+      restarts = λ m f p. (only-of (eqb (m .settings .«smi_cmd») 0) _ (λ e. e), refl);
+      presses = λ m f p. p;
+      releases = λ m p. p;
+      ticks = λ m n up o p. p;
+      overrides = λ m n up o p. p;
+    }
+
+-- ---- the other control cells
+
+abbrev Control : Machine → Type 0
+Control m = (slpTypBLegal m ≡ true) × (slpTypsLegal m ≡ true) × (arbDisLegal m ≡ true)
+
+-- B's SLP_TYP after a control write that leaves it alone where B is absent
+typ-b-written : (m : Machine) (b : ℕ) → (hasB (m .settings) ≡ false → b ≡ m .«slp_typ_b») → slpTypBLegal m ≡ true
+    → onlyIf (not (hasB (m .settings))) (eqb b 0) ≡ true
+unfolding slpTypBLegal
+typ-b-written m b nb p = only-of (not (hasB (m .settings))) (eqb b 0) (λ e. rw (nb (not-true _ e)) (only-if _ _ p e))
+
+typs-written : (m : Machine) (a b : ℕ) → (m .«slp_typ_a» < 8 → a < 8) → (m .«slp_typ_b» < 8 → b < 8) → slpTypsLegal m ≡ true
+    → (ltb a 8 && ltb b 8) ≡ true
+unfolding slpTypsLegal
+typs-written m a b la lb p =
+    let (ea, eb) = parts (ltb (m .«slp_typ_a») 8) (ltb (m .«slp_typ_b») 8) p in
+    both (ltb a 8) (ltb b 8) (lt-ltb a 8 (la (ltb-true _ 8 ea))) (lt-ltb b 8 (lb (ltb-true _ 8 eb)))
+
+control-keeps : Keeps Control
+unfolding slpTypBLegal slpTypsLegal arbDisLegal generalRaised
+control-keeps =
+    record {
+      raises = λ m bits w p. p;
+      clears = λ m bits p. p;
+      enables = λ m cells w p. p;
+      bytes0 = λ m offset written o w p. p;
+      bytes1 = λ m offset written o w p. p;
+      general = λ m k h p. p;
+      commands = λ m written s w p. p;
+      takes = λ m sci-en w p. p;
+      controls = λ m bm-rld gbl-rls a b armed up la lb nb na p. (typ-b-written m b nb (p .0), typs-written m a b la lb (p .1), p .2);
+      arbitrates = λ m arb-dis s p. (p .0, p .1, only-of arb-dis _ (λ e. s));
+      sleeps = λ m state up a p. p;
+      wakes = λ m l p. p;
+      restarts = λ m f p. (or-true (not (not (hasB (m .settings)))), refl, refl);
+      presses = λ m f p. p;
+      releases = λ m p. p;
+      ticks = λ m n up o p. p;
+      overrides = λ m n up o p. p;
+    }
+
+-- ---- general event bytes
+
+-- the four lists of bytes, of a platform whose settings are legal
+abbrev Gpe : Machine → Type 0
+Gpe m =
+    Guaranteed (m .settings)
+    × Bytes (m .settings .gpe0 .length / 2) (m .«gpe0_sts»)
+    × Bytes (m .settings .gpe0 .length / 2) (m .«gpe0_en»)
+    × Bytes (m .settings .gpe1 .length / 2) (m .«gpe1_sts»)
+    × Bytes (m .settings .gpe1 .length / 2) (m .«gpe1_en»)
+
+even0 : (m : Machine) → Gpe m → m .settings .gpe0 .length % 2 ≡ 0
+even0 m p = even-length (m .settings .gpe0) (p .0 .gpe0-length) (p .0 .gpe0-none)
+
+even1 : (m : Machine) → Gpe m → m .settings .gpe1 .length % 2 ≡ 0
+even1 m p = even-length (m .settings .gpe1) (p .0 .gpe1-length) (p .0 .gpe1-none)
+
+module _ (m : Machine) (offset written : ℕ) where
+  bytes0-written : offset < m .settings .gpe0 .length → written < 256 → Gpe m → Gpe (gpeWritten m false offset written)
+  bytes0-written o w p = (
+    p .0,
+    status-written m false offset written (p .1),
+    enable-written m false offset written (m .settings .gpe0 .length) refl (even0 m p) o w (p .2),
+    p .3,
+    p .4,
+  )
+
+  bytes1-written : offset < m .settings .gpe1 .length → written < 256 → Gpe m → Gpe (gpeWritten m true offset written)
+  bytes1-written o w p = (
+    p .0,
+    p .1,
+    p .2,
+    status-written m true offset written (p .3),
+    enable-written m true offset written (m .settings .gpe1 .length) refl (even1 m p) o w (p .4),
+  )
+
+general-bytes : (m : Machine) (k : ℕ) → (inGpe0 (m .settings) k || inGpe1 (m .settings) k) ≡ true → Gpe m → Gpe (generalRaised m k)
+unfolding generalRaised inGpe0 inGpe1
+general-bytes m k h p = go (ltb k (eventCount (m .settings .gpe0))) refl
+  where
+    go : (t : Bool) → ltb k (eventCount (m .settings .gpe0)) ≡ t → Gpe (generalRaised m k)
+    go true e =
+        rw e (p .0, bytes-with-bit (m .settings .gpe0 .length) (m .«gpe0_sts») k (even0 m p) (ltb-true k _ e) (p .1), p .2, p .3, p .4)
+    go false e =
+        let inside : (leb (m .settings .«gpe1_base») k && ltb (k - m .settings .«gpe1_base») (eventCount (m .settings .gpe1))) ≡ true = rw e at h in
+        let low = ltb-true (k - m .settings .«gpe1_base») _ (and-right (leb (m .settings .«gpe1_base») k) _ inside) in
+        rw e (p .0, p .1, p .2, bytes-with-bit (m .settings .gpe1 .length) (m .«gpe1_sts») (k - m .settings .«gpe1_base») (even1 m p) low (p .3), p .4)
+
+gpe-keeps : Keeps Gpe
+unfolding generalRaised
+gpe-keeps =
+    record {
+      raises = λ m bits w p. p;
+      clears = λ m bits p. p;
+      enables = λ m cells w p. p;
+      bytes0 = bytes0-written;
+      bytes1 = bytes1-written;
+      general = general-bytes;
+      commands = λ m written s w p. p;
+      takes = λ m sci-en w p. p;
+      controls = λ m bm-rld gbl-rls a b armed up la lb nb na p. p;
+      arbitrates = λ m arb-dis s p. p;
+      sleeps = λ m state up a p. p;
+      wakes = λ m l p. p;
+      restarts = λ m f p. (p .0, no-bytes _, no-bytes _, no-bytes _, no-bytes _);
+      presses = λ m f p. p;
+      releases = λ m p. p;
+      ticks = λ m n up o p. p;
+      overrides = λ m n up o p. p;
+    }
+
+-- ---- all of it
+
+-- what the test means, clause by clause
+pub record Legal (m : Machine) : Type 0 where
+  pub settings : legalSettings (m .settings) ≡ true
+  pub status : statusLegal m ≡ true
+  pub enables : enablesLegal m ≡ true
+  pub gpe0 : gpeLegal m false ≡ true
+  pub gpe1 : gpeLegal m true ≡ true
+  pub arb-dis : arbDisLegal m ≡ true
+  pub state : stateLegal m ≡ true
+  pub counter : counterLegal m ≡ true
+  pub hold : holdLegal m ≡ true
+  pub button : buttonLegal m ≡ true
+  pub command : commandLegal m ≡ true
+  pub command-byte : commandByteLegal m ≡ true
+  pub armed : armedLegal m ≡ true
+  pub slp-typ-b : slpTypBLegal m ≡ true
+  pub slp-typs : slpTypsLegal m ≡ true
+
+pub legal-means : (m : Machine) → legal m ≡ true → Legal m
+unfolding legal
+legal-means m e =
+    let (e₁, slp-typs) = parts _ (slpTypsLegal m) e in
+    let (e₂, slp-typ-b) = parts _ (slpTypBLegal m) e₁ in
+    let (e₃, armed) = parts _ (armedLegal m) e₂ in
+    let (e₄, command-byte) = parts _ (commandByteLegal m) e₃ in
+    let (e₅, command) = parts _ (commandLegal m) e₄ in
+    let (e₆, button) = parts _ (buttonLegal m) e₅ in
+    let (e₇, hold) = parts _ (holdLegal m) e₆ in
+    let (e₈, counter) = parts _ (counterLegal m) e₇ in
+    let (e₉, state) = parts _ (stateLegal m) e₈ in
+    let (e₁₀, arb-dis) = parts _ (arbDisLegal m) e₉ in
+    let (e₁₁, gpe1) = parts _ (gpeLegal m true) e₁₀ in
+    let (e₁₂, gpe0) = parts _ (gpeLegal m false) e₁₁ in
+    let (e₁₃, enables) = parts _ (enablesLegal m) e₁₂ in
+    let (settings, status) = parts (legalSettings (m .settings)) (statusLegal m) e₁₃ in
+    record {
+      settings = settings;
+      status = status;
+      enables = enables;
+      gpe0 = gpe0;
+      gpe1 = gpe1;
+      arb-dis = arb-dis;
+      state = state;
+      counter = counter;
+      hold = hold;
+      button = button;
+      command = command;
+      command-byte = command-byte;
+      armed = armed;
+      slp-typ-b = slp-typ-b;
+      slp-typs = slp-typs;
+    }
+
+pub means-legal : (m : Machine) → Legal m → legal m ≡ true
+unfolding legal
+means-legal m l =
+    rw (
+      l .settings,
+      l .status,
+      l .enables,
+      l .gpe0,
+      l .gpe1,
+      l .arb-dis,
+      l .state,
+      l .counter,
+      l .hold,
+      l .button,
+      l .command,
+      l .command-byte,
+      l .armed,
+      l .slp-typ-b,
+      l .slp-typs,
+    )
+    refl
+
+-- the two clauses on general event bytes, and what they mean
+gpe-mean : (m : Machine) → legalSettings (m .settings) ≡ true → gpeLegal m false ≡ true → gpeLegal m true ≡ true → Gpe m
+unfolding gpeLegal
+gpe-mean m s e f = (
+  legal-guaranteed (m .settings) s,
+  bytes-mean _ (m .«gpe0_sts») (and-left _ _ e),
+  bytes-mean _ (m .«gpe0_en») (and-right (bytesLegal (m .settings .gpe0 .length / 2) (m .«gpe0_sts»)) _ e),
+  bytes-mean _ (m .«gpe1_sts») (and-left _ _ f),
+  bytes-mean _ (m .«gpe1_en») (and-right (bytesLegal (m .settings .gpe1 .length / 2) (m .«gpe1_sts»)) _ f),
+)
+
+mean-gpe : (m : Machine) → Gpe m → (gpeLegal m false ≡ true) × (gpeLegal m true ≡ true)
+unfolding gpeLegal
+mean-gpe m p = (
+  both _ _ (mean-bytes _ (m .«gpe0_sts») (p .1)) (mean-bytes _ (m .«gpe0_en») (p .2)),
+  both _ _ (mean-bytes _ (m .«gpe1_sts») (p .3)) (mean-bytes _ (m .«gpe1_en») (p .4)),
+)
+
+-- every step keeps each clause
+pub clauses-kept : (m : Machine) (s : Step) → Legal m → Legal (after m s)
+clauses-kept m s l =
+    let pm1 = kept-by-steps Pm1 pm1-keeps m s (l .status, l .enables) in
+    let gpe = mean-gpe (after m s) (kept-by-steps Gpe gpe-keeps m s (gpe-mean m (l .settings) (l .gpe0) (l .gpe1))) in
+    let control = kept-by-steps Control control-keeps m s (l .slp-typ-b, l .slp-typs, l .arb-dis) in
+    let sleep = kept-by-steps Sleep sleep-keeps m s (l .state, l .armed) in
+    let button = kept-by-steps Button button-keeps m s (l .button, hold-held m (l .hold)) in
+    let commands = kept-by-steps Commands commands-keep m s (l .command, l .command-byte) in
+    record {
+      settings = rw (settings-kept m s) (l .settings);
+      status = pm1 .0;
+      enables = pm1 .1;
+      gpe0 = gpe .0;
+      gpe1 = gpe .1;
+      arb-dis = control .2;
+      state = sleep .0;
+      counter = kept-by-steps Counter counter-keeps m s (l .counter);
+      hold = held-hold (after m s) (button .1);
+      button = button .0;
+      command = commands .0;
+      command-byte = commands .1;
+      armed = sleep .1;
+      slp-typ-b = control .0;
+      slp-typs = control .1;
+    }
+
+-- "all that .. any steps then give are legal"
+pub legal-kept : (m : Machine) (s : Step) → legal m ≡ true → legal (after m s) ≡ true
+legal-kept m s e = means-legal (after m s) (clauses-kept m s (legal-means m e))
+
+-- ---- setting up
+
+size-positive : (wide : Bool) → ltb 0 (2 ^ counterBits wide) ≡ true
+size-positive true = refl
+size-positive false = refl
+
+pub power-on-legal : (s : Settings) → legalSettings s ≡ true → legal (powerOn s) ≡ true
+unfolding statusLegal enablesLegal arbDisLegal stateAllowed counterLegal buttonLegal commandLegal commandByteLegal armedLegal slpTypBLegal slpTypsLegal
+power-on-legal s e =
+    let bytes = mean-gpe (powerOn s) (legal-guaranteed s e, no-bytes _, no-bytes _, no-bytes _, no-bytes _) in
+    means-legal (powerOn s)
+    (record {
+      settings = e;
+      status = zero-within (statusCells s);
+      enables = zero-within (enableCells s);
+      gpe0 = bytes .0;
+      gpe1 = bytes .1;
+      arb-dis = refl;
+      state = refl;
+      counter = size-positive (wideTimer s);
+      hold = held-hold (powerOn s) (lit≤ tt, λ o n. lit< tt);
+      button = refl;
+      command = only-of (eqb (s .«smi_cmd») 0) _ (λ z. z);
+      command-byte = refl;
+      armed = refl;
+      slp-typ-b = or-true (not (not (hasB s)));
+      slp-typs = refl;
+    })
+
+from-power-on : (m : Machine) (s : Settings) → m ≡ powerOn s → legalSettings (m .settings) ≡ true → legal m ≡ true
+from-power-on m s q l = rw q (power-on-legal s (rw q at l))
+
+-- "all that accepted setting up .. give are legal"
+pub set-up-legal : (t : List ℕ) (event-homes control-homes : ℕ) (power-override : Bool) (pairs : List (List ℕ))
+    → setUpOf t event-homes control-homes power-override pairs .answer ≡ answer.Done
+    → legal (setUpOf t event-homes control-homes power-override pairs .machine) ≡ true
+set-up-legal t event-homes control-homes power-override pairs e =
+    from-power-on _ _ (accepted-machine t _ e) (accepted-legal t event-homes control-homes power-override pairs e)

@@ -1,0 +1,106 @@
+-- When a machine is legal: W2's list, one test a clause. That setting up gives legal machines and every step keeps them legal
+-- is `set-up-legal` and `legal-kept` of `proofs/Legal.antt`.
+use mathlib.Core.Bool.{Bool, true, false, not, _&&_, _||_}
+use mathlib.Core.List.{List, [], _∷_}
+use Prim.Native.Nat.{ℕ, _^_}
+use lib.Dec.{eqb, ltb, leb}
+use lib.ListN.{length, getD, drop}
+use Rattle.lists.specs.Any.{any}
+use Rattle.bits.specs.Cell.{within}
+use Rattle.clock.specs.Clock.{counterBits, holdLimit}
+use Rattle.sleep.specs.Pairs.{absent}
+use Rattle.platform.specs.Blocks.{present}
+use Rattle.platform.specs.Cells.{statusCells, enableCells, wideTimer}
+use Rattle.platform.specs.Legal.{legalSettings}
+use Rattle.platform.specs.declared.settings.Settings.{Settings}
+use Rattle.machine.specs.Cells.{pwrbtnBit, hasB, gpeHalf, gpeSts, gpeEn}
+use Rattle.machine.specs.Lines.{awake}
+use Rattle.machine.specs.PowerOn.{gpeBytes}
+use Rattle.machine.specs.declared.Machine.{Machine}
+use Rattle.model.specs.Events.{fits, inS5}
+
+-- the first only where the second
+abbrev pub onlyIf : Bool → Bool → Bool
+onlyIf a b = not a || b
+
+-- "no unfitted or reserved bit", of the PM1 status; one register holds the bits of both blocks, so none can stand outside its home
+unfoldable pub statusLegal : Machine → Bool
+statusLegal m = within (statusCells (m .settings)) (m .«pm1_sts»)
+
+-- .. of the PM1 enables
+unfoldable pub enablesLegal : Machine → Bool
+enablesLegal m = within (enableCells (m .settings)) (m .«pm1_en»)
+
+-- .. of general event bytes: as many as the machine has, each a byte, and zero past the block's own
+unfoldable pub bytesLegal : ℕ → List ℕ → Bool
+bytesLegal own bytes = eqb (length bytes) gpeBytes && not (any (leb 256) bytes) && not (any (ltb 0) (drop own bytes))
+
+-- .. of GPE0, or with b of GPE1: status bytes, and as many enable bytes
+unfoldable pub gpeLegal : Machine → Bool → Bool
+gpeLegal m b = bytesLegal (gpeHalf (m .settings) b) (gpeSts m b) && bytesLegal (gpeHalf (m .settings) b) (gpeEn m b)
+
+-- "or ARB_DIS without PM2"
+unfoldable pub arbDisLegal : Machine → Bool
+arbDisLegal m = onlyIf (m .«arb_dis») (present (m .settings .«pm2_cnt»))
+
+-- an absent state's pair; also what a state past the table reads
+abbrev pub absentPair : List ℕ
+absentPair = 255 ∷ 255 ∷ []
+
+-- "S0, S5 or a present state"
+unfoldable pub stateAllowed : Settings → ℕ → Bool
+stateAllowed s state = eqb state 0 || eqb state 5 || not (absent (getD (s .sleep .pairs) state absentPair))
+
+abbrev pub stateLegal : Machine → Bool
+stateLegal m = stateAllowed (m .settings) (m .state)
+
+-- "counter below its size"
+unfoldable pub counterLegal : Machine → Bool
+counterLegal m = ltb (m .counter) (2 ^ counterBits (wideTimer (m .settings)))
+
+-- "hold at most 14,318,180, and below it outside S5 with the override fitted"
+unfoldable pub holdLegal : Machine → Bool
+holdLegal m = leb (m .hold) holdLimit && onlyIf (m .settings .«power_override» && not (inS5 m)) (ltb (m .hold) holdLimit)
+
+-- "button down only where fitted"
+unfoldable pub buttonLegal : Machine → Bool
+buttonLegal m = onlyIf (m .button) (fits (m .settings) pwrbtnBit)
+
+-- "no command, and SCI_EN set, without SMI_CMD"
+unfoldable pub commandLegal : Machine → Bool
+commandLegal m = onlyIf (eqb (m .settings .«smi_cmd») 0) (not (m .«command_waits») && m .«sci_en»)
+
+-- the command is a byte, zero where none waits
+unfoldable pub commandByteLegal : Machine → Bool
+commandByteLegal m = ltb (m .command) 256 && onlyIf (not (m .«command_waits»)) (eqb (m .command) 0)
+
+-- "armed only in S0 with B control"
+unfoldable pub armedLegal : Machine → Bool
+armedLegal m = onlyIf (m .armed) (awake m && hasB (m .settings))
+
+-- "B's SLP_TYP zero without B"
+unfoldable pub slpTypBLegal : Machine → Bool
+slpTypBLegal m = onlyIf (not (hasB (m .settings))) (eqb (m .«slp_typ_b») 0)
+
+-- each SLP_TYP has three bits
+unfoldable pub slpTypsLegal : Machine → Bool
+slpTypsLegal m = ltb (m .«slp_typ_a») 8 && ltb (m .«slp_typ_b») 8
+
+-- "settings pass rules 5 to 12", and the clauses above
+unfoldable pub legal : Machine → Bool
+legal m =
+    legalSettings (m .settings) &&
+    statusLegal m &&
+    enablesLegal m &&
+    gpeLegal m false &&
+    gpeLegal m true &&
+    arbDisLegal m &&
+    stateLegal m &&
+    counterLegal m &&
+    holdLegal m &&
+    buttonLegal m &&
+    commandLegal m &&
+    commandByteLegal m &&
+    armedLegal m &&
+    slpTypBLegal m &&
+    slpTypsLegal m
