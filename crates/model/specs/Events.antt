@@ -6,7 +6,7 @@ use lib.Bits.{bitAnd, bitOr}
 use lib.Dec.{eqb, ltb, leb}
 use lib.ListN.{getD, set}
 use Rattle.cells.specs.Cells.{flagOf}
-use Rattle.clock.specs.Clock.{tickOf}
+use Rattle.clock.specs.Clock.{tickOf, startOf}
 use Rattle.clock.specs.declared.Clock.{Clock}
 use Rattle.platform.specs.Blocks.{present}
 use Rattle.platform.specs.Cells.{statusCells, wideTimer}
@@ -64,7 +64,7 @@ inGpe1 s k = leb (s .«gpe1_base») k && ltb (k - s .«gpe1_base») (eventCount 
 abbrev pub numberIn : Settings → ℕ → ℕ
 numberIn s k = cond (inGpe0 s k) k (k - s .«gpe1_base»)
 
--- status byte i of a block gains bit j
+-- the block's status bytes with event k's bit set: bit k % 8 of byte k / 8
 abbrev pub withBit : List ℕ → ℕ → List ℕ
 withBit xs k = set xs (k / 8) (bitOr (getD xs (k / 8) 0) (2 ^ (k % 8)))
 
@@ -90,7 +90,7 @@ generalOf m k = cond (inS5 m) m (wokenIf (generalEnabled m k) (generalRaised m k
 
 -- the clock that a tick of the machine finds
 abbrev pub clockOf : Machine → Clock
-clockOf m = record { counter = m .counter; turns = 0; hold = m .hold; off = false }
+clockOf m = startOf (m .counter) (m .hold)
 
 -- "TMR, if fitted, is set when its top bit changes"
 unfoldable pub tmrRaised : Settings → ℕ → ℕ

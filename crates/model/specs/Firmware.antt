@@ -24,6 +24,6 @@ enablesAfter m = cond (isEnable m) (cond (m .«sci_en») (m .«pm1_en») 0) (m .
 abbrev pub takeOf : Machine → Machine
 takeOf m = withCommand (withSciEn (withEvent m (m .«pm1_sts») (enablesAfter m)) (sciEnAfter m)) false 0
 
--- "A second firmware step drops the release flag"
+-- "A second firmware step drops the release flag, and is accepted if none is up."
 abbrev pub dropOf : Machine → Machine
 dropOf m = withControl m (m .«bm_rld») false (m .«slp_typ_a») (m .«slp_typ_b») (m .armed)

@@ -29,7 +29,7 @@ offsetOf m a = offsetAt (m .settings) (a .port)
 
 -- ---- the lines of the table, by the kind of step
 
--- 21, 23 and 24, of a read
+-- 20, 21, 23 and 24, of a read
 abbrev pub readLines : Machine → Access → List Line
 readLines m a =
     answer.Asleep if not (awake m) ∷
@@ -38,7 +38,7 @@ readLines m a =
     answer.NotAllowed if not (allowed (registerOf m a) (a .width) (offsetOf m a)) ∷
     []
 
--- 21 to 27, of a write
+-- 20 to 27, of a write
 abbrev pub writeLines : Machine → Access → ℕ → List Line
 writeLines m a written =
     answer.Asleep if not (awake m) ∷

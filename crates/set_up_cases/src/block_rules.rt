@@ -5,7 +5,7 @@ use crate::case::several;
 use crate::case::three;
 use crate::case::two;
 
-pub fn rule_6() {
+pub(crate) fn rule_6() {
     pm1_lengths();
     pm1_lengths_of_present_blocks();
     pm2_lengths();
@@ -98,7 +98,7 @@ fn gpe1_lengths() {
     two(b"GPE1 length 4 without address", [93, 4, 94, 16]);
 }
 
-pub fn rule_7() {
+pub(crate) fn rule_7() {
     pm1a_missing();
     pm1_alignment();
     other_alignment();
@@ -193,7 +193,7 @@ fn high_addresses() {
     one(b"SMI_CMD at FFFFFFFF hex", 48, 0xFFFFFFFF);
 }
 
-pub fn rule_8() {
+pub(crate) fn rule_8() {
     touching_and_overlapping();
     one_inside_another();
     gpe_blocks();
@@ -335,7 +335,7 @@ fn others_at_one_port() {
     four(b"PM_TMR at GPE1", [76, 0x480, 84, 0x480, 93, 4, 94, 16]);
 }
 
-pub fn rule_9() {
+pub(crate) fn rule_9() {
     first_event();
     last_event();
 }

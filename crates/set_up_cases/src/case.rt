@@ -13,7 +13,7 @@ fn pair(p: u16) -> [u8; 2] {
     [(p / 256) as u8, (p % 256) as u8]
 }
 
-pub fn answer(
+pub(crate) fn answer(
     name: &[u8],
     table: &[u8],
     event_homes: u16,
@@ -61,13 +61,13 @@ fn lend(
 }
 
 // An edited table of which so many bytes are lent; as many as its length says sum to this.
-pub fn lent(name: &[u8], bytes: usize, sum: u8, edits: &[u32]) {
+pub(crate) fn lent(name: &[u8], bytes: usize, sum: u8, edits: &[u32]) {
     let t = table(edits, sum);
     lend(name, &t, bytes, 0, 0, false, SESSION);
 }
 
 // An edited table, and what the host gives beside it.
-pub fn host(
+pub(crate) fn host(
     name: &[u8],
     event_homes: u16,
     control_homes: u16,
@@ -88,49 +88,49 @@ pub fn host(
 }
 
 // An edited table alone. The edits are offsets and values of fields, in turns.
-pub fn several(name: &[u8], edits: &[u32]) {
+pub(crate) fn several(name: &[u8], edits: &[u32]) {
     host(name, 0, 0, false, SESSION, edits);
 }
 
-pub fn one(name: &[u8], offset: u32, value: u32) {
+pub(crate) fn one(name: &[u8], offset: u32, value: u32) {
     several(name, &[offset, value]);
 }
 
-pub fn two(name: &[u8], edits: [u32; 4]) {
+pub(crate) fn two(name: &[u8], edits: [u32; 4]) {
     several(name, &edits);
 }
 
-pub fn three(name: &[u8], edits: [u32; 6]) {
+pub(crate) fn three(name: &[u8], edits: [u32; 6]) {
     several(name, &edits);
 }
 
-pub fn four(name: &[u8], edits: [u32; 8]) {
+pub(crate) fn four(name: &[u8], edits: [u32; 8]) {
     several(name, &edits);
 }
 
-pub fn event_homes(name: &[u8], homes: u16) {
+pub(crate) fn event_homes(name: &[u8], homes: u16) {
     host(name, homes, 0, false, SESSION, &[]);
 }
 
 // PM1b_EVT is absent.
-pub fn event_homes_without_b(name: &[u8], homes: u16) {
+pub(crate) fn event_homes_without_b(name: &[u8], homes: u16) {
     host(name, homes, 0, false, SESSION, &[60, 0]);
 }
 
-pub fn control_homes(name: &[u8], homes: u16) {
+pub(crate) fn control_homes(name: &[u8], homes: u16) {
     host(name, 0, homes, false, SESSION, &[]);
 }
 
 // PM1b_CNT is absent.
-pub fn control_homes_without_b(name: &[u8], homes: u16) {
+pub(crate) fn control_homes_without_b(name: &[u8], homes: u16) {
     host(name, 0, homes, false, SESSION, &[68, 0]);
 }
 
-pub fn pairs(name: &[u8], states: [u16; 6]) {
+pub(crate) fn pairs(name: &[u8], states: [u16; 6]) {
     host(name, 0, 0, false, states, &[]);
 }
 
 // PM1b_CNT is absent.
-pub fn pairs_without_b(name: &[u8], states: [u16; 6]) {
+pub(crate) fn pairs_without_b(name: &[u8], states: [u16; 6]) {
     host(name, 0, 0, false, states, &[68, 0]);
 }

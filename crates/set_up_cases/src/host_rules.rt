@@ -12,7 +12,7 @@ use crate::case::pairs_without_b;
 use crate::case::three;
 use crate::case::two;
 
-pub fn rule_10() {
+pub(crate) fn rule_10() {
     one(b"equal commands", 53, 0xE1);
     two(b"equal commands, SMI_CMD absent", [48, 0, 53, 0xE1]);
     two(b"equal commands, SMI_CMD at 100 hex", [48, 0x100, 53, 0xE1]);
@@ -23,7 +23,7 @@ pub fn rule_10() {
     one(b"ACPI_DISABLE 0", 53, 0);
 }
 
-pub fn rule_11() {
+pub(crate) fn rule_11() {
     event_bits();
     event_bits_without_b();
     other_event_bits();
@@ -162,7 +162,7 @@ fn unfitted_events() {
     );
 }
 
-pub fn rule_12() {
+pub(crate) fn rule_12() {
     pair_values();
     pair_values_without_b();
     half_absent();

@@ -9,7 +9,7 @@ use crate::case::two;
 // S5 has 8 for a.
 const WRONG_PAIR: [u16; 6] = [0x0000, NO, NO, NO, NO, 0x0800];
 
-pub fn first_of_several() {
+pub(crate) fn first_of_several() {
     neighbours();
     all_from_one_on();
     across_blocks();

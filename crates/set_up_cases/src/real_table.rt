@@ -2,7 +2,7 @@
 use crate::case::NO;
 use crate::case::answer;
 
-pub fn real_table() {
+pub(crate) fn real_table() {
     let path = b"qemu-pc.fadt";
     let file = os::open_read(path);
     if file < 0 {

@@ -109,6 +109,6 @@ fn summing_to(sum: u8, table: [u8; ROOM]) -> [u8; ROOM] {
 }
 
 // The base table with these edits; its bytes sum to this.
-pub fn table(edits: &[u32], sum: u8) -> [u8; ROOM] {
+pub(crate) fn table(edits: &[u32], sum: u8) -> [u8; ROOM] {
     summing_to(sum, edited(base(), edits))
 }

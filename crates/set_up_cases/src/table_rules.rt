@@ -5,20 +5,20 @@ use crate::case::lent;
 use crate::case::one;
 use crate::case::several;
 
-pub fn session() {
+pub(crate) fn session() {
     host(b"the worked session", 0x0400, 0x0000, false, SESSION, &[]);
     host(b"power override fitted", 0x0400, 0x0000, true, SESSION, &[]);
     several(b"all homes A", &[]);
 }
 
-pub fn rule_1() {
+pub(crate) fn rule_1() {
     lent(b"no byte lent", 0, 0, &[]);
     lent(b"1 byte lent", 1, 0, &[]);
     lent(b"115 bytes lent", 115, 0, &[]);
     lent(b"116 bytes lent", 116, 0, &[]);
 }
 
-pub fn rule_2() {
+pub(crate) fn rule_2() {
     one(b"signature GACP", 0, 0x47);
     one(b"signature FBCP", 1, 0x42);
     one(b"signature FADP", 2, 0x44);
@@ -26,7 +26,7 @@ pub fn rule_2() {
     one(b"signature fACP", 0, 0x66);
 }
 
-pub fn rule_3() {
+pub(crate) fn rule_3() {
     lent(b"length 115, 115 lent", 115, 0, &[4, 115]);
     lent(b"length 115, 116 lent", 116, 0, &[4, 115]);
     lent(b"length 116, 116 lent", 116, 0, &[4, 116]);
@@ -42,7 +42,7 @@ pub fn rule_3() {
     lent(b"length 16777332, 116 lent", 116, 0, &[4, 16777332]);
 }
 
-pub fn rule_4() {
+pub(crate) fn rule_4() {
     lent(b"sum 0", 116, 0, &[]);
     lent(b"sum 1", 116, 1, &[]);
     lent(b"sum 128", 116, 128, &[]);
@@ -73,7 +73,7 @@ pub fn rule_4() {
     );
 }
 
-pub fn rule_5() {
+pub(crate) fn rule_5() {
     one(b"flag 20", 112, 0x00100000);
     one(b"flag 19", 112, 0x00080000);
     one(b"flag 21", 112, 0x00200000);
