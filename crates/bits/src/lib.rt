@@ -1,4 +1,5 @@
-// The rules of a register's cells, for bytes and words: write one to clear, take what is written, and the same by bytes.
+// The rules of a register's cells, for bytes and words: write one to clear, take what is written, and the same by bytes; and one of two, by a test.
+ghost use mathlib.Core.Bool.{cond};
 ghost use mathlib.Core.Path.{_≡_};
 ghost use Rattle.bits.specs.Cell.{clearedBy, takenBy, clearedByte, takenByte, lane, laneOf, within};
 
@@ -57,4 +58,35 @@ pub fn within16(mask: u16, x: u16) -> bool
     ensures { λ r. ⌜ r ≡ within mask x ⌝ }
 {
     (x & mask) == x
+}
+
+// One of two, by a test.
+pub fn pick8(c: bool, a: u8, b: u8) -> u8
+    ensures { λ r. ⌜ r ≡ cond c a b ⌝ }
+{
+    if c { a } else { b }
+}
+
+pub fn pick16(c: bool, a: u16, b: u16) -> u16
+    ensures { λ r. ⌜ r ≡ cond c a b ⌝ }
+{
+    if c { a } else { b }
+}
+
+pub fn pick32(c: bool, a: u32, b: u32) -> u32
+    ensures { λ r. ⌜ r ≡ cond c a b ⌝ }
+{
+    if c { a } else { b }
+}
+
+pub fn pick64(c: bool, a: u64, b: u64) -> u64
+    ensures { λ r. ⌜ r ≡ cond c a b ⌝ }
+{
+    if c { a } else { b }
+}
+
+pub fn pick_bool(c: bool, a: bool, b: bool) -> bool
+    ensures { λ r. ⌜ r ≡ cond c a b ⌝ }
+{
+    if c { a } else { b }
 }

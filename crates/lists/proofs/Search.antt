@@ -1,10 +1,11 @@
--- The laws of `any`, `anyTwo` and `anyOf`: one turn of a loop over the rest of a list and its end, and what a failed search tells of each place.
+-- The laws of `any`, `anyTwo`, `anyOf` and `firstAt`: one turn of a loop over the rest of a list and its end, and what a failed search tells of each place.
 -- Assumes nothing.
 use mathlib.Core.Path.{_≡_, refl}
 use mathlib.Core.Bool.{Bool, true, false, cond, _||_}
 use mathlib.Core.List.{List, [], _∷_}
 use Prim.Native.Nat.{ℕ, zero, suc, _+_, _≤_, _<_, zero-le, suc-le-suc}
 use native.Mathlib.Numerals.{add-one}
+use native.Mathlib.Omega.{arith}
 use native.Mathlib.Nat.{le-of-suc-le-suc, not-suc-le-zero}
 use lib.ListN.{length, getD, drop, drop-of-length-le}
 use lib.Seq.{drop-cons}
@@ -70,6 +71,21 @@ pub any-of-none : (ts : List Bool) → anyOf ts ≡ false → (i : ℕ) → i < 
 any-of-none [] e i h = absurd (not-suc-le-zero h)
 any-of-none (t ∷ us) e zero h = joined-first t us e
 any-of-none (t ∷ us) e (suc i) h = joined-none t us e i (le-of-suc-le-suc h)
+
+-- one turn and the end of the search for the first place, counted from the list's start
+module _ {A : Type 0} (d : A) (f : A → Bool) where
+  pub first-at-turn : (xs : List A) (i : ℕ) → i < length xs
+      → i + firstAt f (drop i xs) ≡ cond (f (getD xs i d)) i (i + 1 + firstAt f (drop (i + 1) xs))
+  unfolding firstAt
+  first-at-turn xs i h = rw (drop-cons xs i d h, add-one) (go (f (getD xs i d)))
+    where
+      go : (t : Bool) → i + cond t 0 (suc (firstAt f (drop (suc i) xs))) ≡ cond t i (suc i + firstAt f (drop (suc i) xs))
+      go true = omega arith
+      go false = omega arith
+
+  pub first-at-end : (xs : List A) (i : ℕ) → length xs ≤ i → i + firstAt f (drop i xs) ≡ i
+  unfolding firstAt
+  first-at-end xs i h = rw (drop-of-length-le xs h) (omega arith)
 
 -- where some element passes, so does the first found
 first-within : {A : Type 0} (d : A) (f : A → Bool) (xs : List A) (i : ℕ) → i < length xs → f (getD xs i d) ≡ true

@@ -81,13 +81,13 @@ eventRegister m b offset =
     cond (inStatus offset) (bitAnd (m .«pm1_sts») (statusIn (m .settings) b)) (bitAnd (m .«pm1_en») (enableIn (m .settings) b))
 
 -- the ones written to fitted status bits that live in the block
-abbrev pub onesIn : Settings → Bool → ℕ → ℕ → ℕ → ℕ
-onesIn s b width offset written = bitAnd (placed offset written) (bitAnd (statusIn s b) (covered width offset))
+abbrev pub onesIn : Machine → Bool → ℕ → ℕ → ℕ → ℕ
+onesIn m b width offset written = bitAnd (placed offset written) (bitAnd (statusIn (m .settings) b) (covered width offset))
 
 -- "Writing one to a status bit clears it; writing zero keeps it."
 unfoldable pub statusAfter : Machine → Bool → ℕ → ℕ → ℕ → ℕ
 statusAfter m b width offset written =
-    cond (inStatus offset) (kept 16 (m .«pm1_sts») (onesIn (m .settings) b width offset written)) (m .«pm1_sts»)
+    cond (inStatus offset) (kept 16 (m .«pm1_sts») (onesIn m b width offset written)) (m .«pm1_sts»)
 
 -- "An enable bit takes the value written."
 unfoldable pub enableAfter : Machine → Bool → ℕ → ℕ → ℕ → ℕ
@@ -105,13 +105,13 @@ abbrev pub bitWhen : Bool → ℕ → ℕ
 bitWhen test bit = cond test (2 ^ bit) 0
 
 -- PM1b control is present
-abbrev pub hasB : Settings → Bool
-hasB s = present (s .«pm1b_cnt»)
+abbrev pub hasPm1bCnt : Settings → Bool
+hasPm1bCnt s = present (s .«pm1b_cnt»)
 
 abbrev pub slpTyp : Machine → Bool → ℕ
 slpTyp m b = cond b (m .«slp_typ_b») (m .«slp_typ_a»)
 
--- "0 SCI_EN .., 1 BM_RLD, 2 GBL_RLS (.. reads zero), each in its home; 10 to 12 SLP_TYP in both blocks; 13 SLP_EN, reads zero"
+-- "0 SCI_EN (writes ignored), 1 BM_RLD, 2 GBL_RLS (.. reads zero), each in its home; 10 to 12 SLP_TYP in both blocks; 13 SLP_EN, reads zero"
 abbrev pub controlRegister : Machine → Bool → ℕ
 controlRegister m b =
     bitOr (bitOr (bitWhen (controlIn (m .settings) b 0 && m .«sci_en») 0) (bitWhen (controlIn (m .settings) b 1 && m .«bm_rld») 1)) (slpTyp m b * 2 ^ 10)
@@ -153,6 +153,7 @@ gpeStsAfter m b offset written =
     (set (gpeSts m b) offset (clearedBy 8 (getD (gpeSts m b) offset 0) written 255))
     (gpeSts m b)
 
+-- an enable byte takes the byte written
 unfoldable pub gpeEnAfter : Machine → Bool → ℕ → ℕ → List ℕ
 gpeEnAfter m b offset written =
     cond (inGpeStatus (m .settings) b offset)

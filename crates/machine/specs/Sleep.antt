@@ -14,8 +14,8 @@ use Rattle.machine.specs.Fields.{withEvent, withGpe, withControl, withCo
 use Rattle.machine.specs.Lines.{gpeEvent}
 
 -- S1 to S4
-unfoldable pub lightSleep : ℕ → Bool
-lightSleep state = leb 1 state && leb state 4
+unfoldable pub isSleeping : ℕ → Bool
+isSleeping state = leb 1 state && leb state 4
 
 -- the PM1 bits that wake the state where they are enabled: 8, 9, 10, "bit 10 in S4 only with flag 7"
 unfoldable pub wakeBits : Settings → ℕ → ℕ
@@ -27,7 +27,7 @@ woken m = enter (withEvent m (bitOr (m .«pm1_sts») wakBit) (m .«pm1_en»)) 0
 
 -- an event in S1 to S4 that wakes, or does not
 abbrev pub wokenIf : Bool → Machine → Machine
-wokenIf test m = cond (lightSleep (m .state) && test) (woken m) m
+wokenIf test m = cond (isSleeping (m .state) && test) (woken m) m
 
 -- "one of the enabled bits 8, 9, 10 .. or an enabled GPE is already set"
 unfoldable pub pending : Machine → ℕ → Bool

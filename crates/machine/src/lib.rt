@@ -1,8 +1,29 @@
 // The machine: all that a guest's power hardware holds, and setting it up.
+mod lines;
+mod sleeping;
+mod status;
+
+pub use lines::awake;
+pub use lines::gpe_event;
+pub use lines::sci;
+pub use lines::smi;
 use platform::Block;
 use platform::SetUpAnswer;
 use platform::Settings;
 use sleep::SleepTable;
+pub use sleeping::is_sleeping;
+pub use sleeping::pending;
+pub use sleeping::wake_bits;
+pub use status::BM;
+pub use status::GBL;
+pub use status::PCIEXP_WAKE;
+pub use status::PWRBTN;
+pub use status::RTC;
+pub use status::SLPBTN;
+pub use status::TMR;
+pub use status::WAK;
+pub use status::has_bit;
+pub use status::has_bit8;
 ghost use mathlib.Core.Path.{_≡_};
 ghost use mathlib.Core.Bool.{false};
 ghost use Rattle.platform.specs.Blocks.{noBlock};

@@ -10,7 +10,7 @@ use Rattle.clock.specs.AtOnce.{overridden, ranOf, counterAfter, turnsIn, holdAf
 use Rattle.platform.specs.Blocks.{present, holds}
 use Rattle.machine.specs.Cells.{hasBit, inStatus, statusAfter, enableAfter, controlIn, coversLow, coversHigh, writtenBit}
 use Rattle.machine.specs.Lines.{awake}
-use Rattle.machine.specs.Sleep.{lightSleep}
+use Rattle.machine.specs.Sleep.{isSleeping}
 use Rattle.model.specs.Answer.{firstApplying}
 use Rattle.model.specs.Bus.{wrongWidth, dataTooWide, leadsNowhere, allowed, isTimer, commandLost, namesNone, readOf, setsSlpEn, typAfter, completes, bmRldAfter, writeOf}
 use Rattle.model.specs.Events.{inS5, pressOf, tmrRaised, timed, ticksOf, eventOf}
@@ -37,7 +37,7 @@ each-holds (x ∷ rs) e r (List·Memᴰ·tail at) = each-holds rs (and-right (ro
 
 -- the test over the whole list
 pub rows-pass : allHold rows ≡ true
-unfolding allHold stepsHold sameRegisters afterAtOnce answerTo firstApplying awake wrongWidth dataTooWide leadsNowhere allowed isTimer commandLost namesNone readOf writeOf setsSlpEn typAfter completes bmRldAfter registerAt offsetAt firstAt holds present hasBit inStatus statusAfter enableAfter controlIn coversLow coversHigh writtenBit maskOf flagOf bitAt timed tmrRaised overridden ranOf counterAfter turnsIn holdAfter pressOf inS5 lightSleep eventOf
+unfolding allHold stepsHold sameRegisters afterAtOnce answerTo firstApplying awake wrongWidth dataTooWide leadsNowhere allowed isTimer commandLost namesNone readOf writeOf setsSlpEn typAfter completes bmRldAfter registerAt offsetAt firstAt holds present hasBit inStatus statusAfter enableAfter controlIn coversLow coversHigh writtenBit maskOf flagOf bitAt timed tmrRaised overridden ranOf counterAfter turnsIn holdAfter pressOf inS5 isSleeping eventOf
 rows-pass = refl
 
 -- the marked cases: what each row of the list claims of `stepOf` holds

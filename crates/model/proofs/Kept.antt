@@ -26,14 +26,14 @@ use Rattle.platform.specs.Rules.{smiBlock, blocksOf}
 use Rattle.platform.specs.declared.block.Block.{Block}
 use Rattle.platform.specs.declared.settings.Settings.{Settings}
 use Rattle.platform.proofs.Legal.{holds-from}
-use Rattle.machine.specs.Cells.{bmBit, gblBit, pwrbtnBit, slpbtnBit, rtcBit, pciexpWakeBit, hasBit, enableIn, covered, placed, inStatus, onesIn, statusAfter, enableAfter, hasB, coversHigh, writtenBit}
+use Rattle.machine.specs.Cells.{bmBit, gblBit, pwrbtnBit, slpbtnBit, rtcBit, pciexpWakeBit, hasBit, enableIn, covered, placed, inStatus, onesIn, statusAfter, enableAfter, hasPm1bCnt, coversHigh, writtenBit}
 use Rattle.machine.specs.Fields.{withEvent, withControl, withCommand, withButton, withArbDis, withSciEn, withTime, enter}
 use Rattle.machine.specs.Lines.{awake}
-use Rattle.machine.specs.Sleep.{lightSleep, woken, wokenIf, pending, completed, restarted}
+use Rattle.machine.specs.Sleep.{isSleeping, woken, wokenIf, pending, completed, restarted}
 use Rattle.machine.specs.declared.Machine.{Machine}
 use Rattle.model.specs.Bus.{dataTooWide, leadsNowhere, allowed, completes, namedState, typAfter, armedAfter, controlled, controlWritten, gpeWritten, writeOf}
 use Rattle.model.specs.Events.{fits, raised, inS5, pressOf, releaseOf, signalOf, pcieWakeOf, inGpe0, inGpe1, generalRaised, generalEnabled, generalOf, clockOf, tmrRaised, timed, ticksOf, eventOf}
-use Rattle.model.specs.Firmware.{isEnable, enablesAfter, sciEnAfter}
+use Rattle.model.specs.Firmware.{isAcpiEnable, enablesAfter, sciEnAfter}
 use Rattle.model.specs.Legal.{absentPair, stateAllowed}
 use Rattle.model.specs.Ports.{registers, placeAt, registerAt, offsetAt}
 use Rattle.model.specs.Step.{registerOf, offsetOf, linesOf, doneOf, answerTo, accepted, after}
@@ -50,11 +50,11 @@ use Rattle.model.proofs.Ticks.{ticks-closed-form}
 -- ---- the block that a port leads to
 
 abbrev pub blockOf : Settings → Register → Block
-blockOf s register.Smi = smiBlock s
-blockOf s (register.Event b) = cond b (s .«pm1b_evt») (s .«pm1a_evt»)
-blockOf s (register.Control b) = cond b (s .«pm1b_cnt») (s .«pm1a_cnt»)
-blockOf s register.Pm2 = s .«pm2_cnt»
-blockOf s register.Timer = s .«pm_tmr»
+blockOf s register.SmiCmd = smiBlock s
+blockOf s (register.Pm1Evt b) = cond b (s .«pm1b_evt») (s .«pm1a_evt»)
+blockOf s (register.Pm1Cnt b) = cond b (s .«pm1b_cnt») (s .«pm1a_cnt»)
+blockOf s register.Pm2Cnt = s .«pm2_cnt»
+blockOf s register.PmTmr = s .«pm_tmr»
 blockOf s (register.Gpe b) = cond b (s .gpe1) (s .gpe0)
 blockOf s register.Nowhere = noBlock
 
@@ -153,13 +153,13 @@ pub record Keeps (P : Machine → Type 0) : Type 0 where
       → awake m ≡ true
       → (m .«slp_typ_a» < 8 → a < 8)
       → (m .«slp_typ_b» < 8 → b < 8)
-      → (hasB (m .settings) ≡ false → b ≡ m .«slp_typ_b»)
-      → (hasB (m .settings) ≡ false → armed ≡ true → m .armed ≡ true)
+      → (hasPm1bCnt (m .settings) ≡ false → b ≡ m .«slp_typ_b»)
+      → (hasPm1bCnt (m .settings) ≡ false → armed ≡ true → m .armed ≡ true)
       → P m → P (withControl m bm-rld gbl-rls a b armed)
   pub arbitrates : (m : Machine) (arb-dis : Bool) → present (m .settings .«pm2_cnt») ≡ true → P m → P (withArbDis m arb-dis)
   -- sleep and wake
   pub sleeps : (m : Machine) (state : ℕ) → awake m ≡ true → stateAllowed (m .settings) state ≡ true → P m → P (enter m state)
-  pub wakes : (m : Machine) → lightSleep (m .state) ≡ true → P m → P (woken m)
+  pub wakes : (m : Machine) → isSleeping (m .state) ≡ true → P m → P (woken m)
   -- the power button
   pub restarts : (m : Machine) → fits (m .settings) pwrbtnBit ≡ true → P m → P (withButton (restarted m) true 0)
   pub presses : (m : Machine) → fits (m .settings) pwrbtnBit ≡ true → P m → P (withButton m true 0)
@@ -183,18 +183,18 @@ typ-below : (t : Bool) (x old : ℕ) → old < 8 → cond t (x % 8) old < 8
 typ-below true x old h = omega arith
 typ-below false x old h = h
 
-typ-b-kept : (m : Machine) (b : Bool) (width offset written : ℕ) → Reached (m .settings) (register.Control b) offset → hasB (m .settings) ≡ false
+typ-b-kept : (m : Machine) (b : Bool) (width offset written : ℕ) → Reached (m .settings) (register.Pm1Cnt b) offset → hasPm1bCnt (m .settings) ≡ false
     → typAfter m b true width offset written ≡ m .«slp_typ_b»
 unfolding typAfter leadsNowhere
 typ-b-kept m true width offset written r n = absurd (false≢true (sym n ∙ r refl .0))
 typ-b-kept m false width offset written r n = refl
 
-armed-kept : (m : Machine) (b : Bool) (width offset written : ℕ) → hasB (m .settings) ≡ false → armedAfter m b width offset written ≡ true → m .armed ≡ true
+armed-kept : (m : Machine) (b : Bool) (width offset written : ℕ) → hasPm1bCnt (m .settings) ≡ false → armedAfter m b width offset written ≡ true → m .armed ≡ true
 unfolding armedAfter
 armed-kept m b width offset written n = go (coversHigh width offset)
   where
-    go : (t : Bool) → cond t (writtenBit offset written 13 && (hasB (m .settings) && not b)) (m .armed) ≡ true → m .armed ≡ true
-    go true e = absurd (false≢true (sym n ∙ and-left (hasB (m .settings)) (not b) (and-right (writtenBit offset written 13) _ e)))
+    go : (t : Bool) → cond t (writtenBit offset written 13 && (hasPm1bCnt (m .settings) && not b)) (m .armed) ≡ true → m .armed ≡ true
+    go true e = absurd (false≢true (sym n ∙ and-left (hasPm1bCnt (m .settings)) (not b) (and-right (writtenBit offset written 13) _ e)))
     go false e = e
 
 enables-within : (m : Machine) (b : Bool) (width offset written : ℕ) → within (enableCells (m .settings)) (m .«pm1_en») ≡ true
@@ -212,7 +212,7 @@ enables-within m b width offset written e = go (inStatus offset)
 
 taken-within : (m : Machine) → within (enableCells (m .settings)) (m .«pm1_en») ≡ true → within (enableCells (m .settings)) (enablesAfter m) ≡ true
 unfolding enablesAfter
-taken-within m e = go (isEnable m) (m .«sci_en»)
+taken-within m e = go (isAcpiEnable m) (m .«sci_en»)
   where
     go : (t u : Bool) → within (enableCells (m .settings)) (cond t (cond u (m .«pm1_en») 0) (m .«pm1_en»)) ≡ true
     go true true = e
@@ -226,7 +226,7 @@ passes m s e = zero-exactly m s .0 (eqb-true _ _ e)
 module _ (P : Machine → Type 0) (keeps : Keeps P) where
   woken-kept : (test : Bool) (m : Machine) → P m → P (wokenIf test m)
   woken-kept test m p =
-      pick P (lightSleep (m .state) && test) (woken m) m (λ e. keeps .wakes m (and-left (lightSleep (m .state)) test e) p) (λ e. p)
+      pick P (isSleeping (m .state) && test) (woken m) m (λ e. keeps .wakes m (and-left (isSleeping (m .state)) test e) p) (λ e. p)
 
   -- ---- events
 
@@ -237,9 +237,9 @@ module _ (P : Machine → Type 0) (keeps : Keeps P) where
       let fitted = has-within (statusCells (m .settings)) 8 f in
       pick pressed (inS5 m) (restarted m) (wokenIf true m)
       (λ e. keeps .raises (withButton (restarted m) true 0) pwrbtnBit fitted (keeps .restarts m f p))
-      (λ e. pick pressed (lightSleep (m .state) && true) (woken m) m
+      (λ e. pick pressed (isSleeping (m .state) && true) (woken m) m
       (λ e. keeps .raises (withButton (woken m) true 0) pwrbtnBit fitted
-      (keeps .presses (woken m) f (keeps .wakes m (and-left (lightSleep (m .state)) true e) p)))
+      (keeps .presses (woken m) f (keeps .wakes m (and-left (isSleeping (m .state)) true e) p)))
       (λ e. keeps .raises (withButton m true 0) pwrbtnBit fitted (keeps .presses m f p)))
 
   signal-kept : (m : Machine) (bit : ℕ) → within (statusCells (m .settings)) bit ≡ true → P m → P (signalOf m bit)
@@ -249,7 +249,7 @@ module _ (P : Machine → Type 0) (keeps : Keeps P) where
   pcie-kept : (m : Machine) → within (statusCells (m .settings)) pciexpWakeBit ≡ true → P m → P (pcieWakeOf m)
   unfolding pcieWakeOf
   pcie-kept m w p =
-      pick P (lightSleep (m .state) && not (hasBit (m .«pm1_en») pciexpWakeBit)) (wokenIf true (raised m pciexpWakeBit)) m
+      pick P (isSleeping (m .state) && not (hasBit (m .«pm1_en») pciexpWakeBit)) (wokenIf true (raised m pciexpWakeBit)) m
       (λ e. woken-kept true (raised m pciexpWakeBit) (keeps .raises m pciexpWakeBit w p)) (λ e. p)
 
   general-kept : (m : Machine) (k : ℕ) → (inGpe0 (m .settings) k || inGpe1 (m .settings) k) ≡ true → P m → P (generalOf m k)
@@ -299,17 +299,17 @@ module _ (P : Machine → Type 0) (keeps : Keeps P) where
         done : P (withEvent m (m .«pm1_sts») (enableAfter m b width offset written))
         done = keeps .enables m (enableAfter m b width offset written) (enables-within m b width offset written) p
 
-        go : (t : Bool) → P (withEvent m (cond t (kept 16 (m .«pm1_sts») (onesIn (m .settings) b width offset written)) (m .«pm1_sts»)) (enableAfter m b width offset written))
-        go true = keeps .clears (withEvent m (m .«pm1_sts») (enableAfter m b width offset written)) (onesIn (m .settings) b width offset written) done
+        go : (t : Bool) → P (withEvent m (cond t (kept 16 (m .«pm1_sts») (onesIn m b width offset written)) (m .«pm1_sts»)) (enableAfter m b width offset written))
+        go true = keeps .clears (withEvent m (m .«pm1_sts») (enableAfter m b width offset written)) (onesIn m b width offset written) done
         go false = done
 
-    controlled-kept : (b : Bool) → Reached (m .settings) (register.Control b) offset → P (controlled m b width offset written)
+    controlled-kept : (b : Bool) → Reached (m .settings) (register.Pm1Cnt b) offset → P (controlled m b width offset written)
     unfolding typAfter
     controlled-kept b r =
         keeps .controls m _ _ _ _ _ up (typ-below (not b && coversHigh width offset) _ _) (typ-below (b && coversHigh width offset) _ _)
         (typ-b-kept m b width offset written r) (armed-kept m b width offset written) p
 
-    control-kept : (b : Bool) → Reached (m .settings) (register.Control b) offset → P (controlWritten m b width offset written)
+    control-kept : (b : Bool) → Reached (m .settings) (register.Pm1Cnt b) offset → P (controlWritten m b width offset written)
     unfolding completed awake
     control-kept b r =
         let x = controlled m b width offset written in
@@ -321,11 +321,11 @@ module _ (P : Machine → Type 0) (keeps : Keeps P) where
     write-kept : (r : Register) → Reached (m .settings) r offset → dataTooWide width written ≡ false → allowed r width offset ≡ true
         → P (writeOf m r width offset written)
     unfolding writeOf leadsNowhere allowed
-    write-kept register.Smi r d a = keeps .commands m written (r refl .0) (byte-below width written a d) p
-    write-kept (register.Event b) r d a = event-write-kept b
-    write-kept (register.Control b) r d a = control-kept b r
-    write-kept register.Pm2 r d a = keeps .arbitrates m (eqb (written % 2) 1) (r refl .0) p
-    write-kept register.Timer r d a = p
+    write-kept register.SmiCmd r d a = keeps .commands m written (r refl .0) (byte-below width written a d) p
+    write-kept (register.Pm1Evt b) r d a = event-write-kept b
+    write-kept (register.Pm1Cnt b) r d a = control-kept b r
+    write-kept register.Pm2Cnt r d a = keeps .arbitrates m (eqb (written % 2) 1) (r refl .0) p
+    write-kept register.PmTmr r d a = p
     write-kept (register.Gpe false) r d a = keeps .bytes0 m offset written (r refl .1) (byte-below width written a d) p
     write-kept (register.Gpe true) r d a = keeps .bytes1 m offset written (r refl .1) (byte-below width written a d) p
     write-kept register.Nowhere r d a = p

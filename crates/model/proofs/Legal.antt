@@ -20,11 +20,11 @@ use Rattle.platform.specs.Rules.{eventCount}
 use Rattle.platform.specs.declared.rules.SetUpAnswer.the-variants as answer
 use Rattle.platform.specs.declared.settings.Settings.{Settings}
 use Rattle.platform.proofs.Legal.{legal-guaranteed}
-use Rattle.machine.specs.Cells.{wakBit, hasB}
+use Rattle.machine.specs.Cells.{wakBit, hasPm1bCnt}
 use Rattle.machine.specs.Lines.{awake}
 use Rattle.machine.specs.PowerOn.{powerOn}
 use Rattle.machine.specs.SetUp.{setUpOf}
-use Rattle.machine.specs.Sleep.{lightSleep}
+use Rattle.machine.specs.Sleep.{isSleeping}
 use Rattle.machine.specs.declared.Machine.{Machine}
 use Rattle.machine.proofs.Accepted.{accepted-machine, accepted-legal}
 use Rattle.model.specs.Bus.{gpeWritten}
@@ -88,14 +88,14 @@ abbrev Sleep : Machine → Type 0
 Sleep m = (stateLegal m ≡ true) × (armedLegal m ≡ true)
 
 -- arming needs B control, or was there before
-armed-written : (m : Machine) (armed : Bool) → awake m ≡ true → (hasB (m .settings) ≡ false → armed ≡ true → m .armed ≡ true) → armedLegal m ≡ true
-    → onlyIf armed (awake m && hasB (m .settings)) ≡ true
+armed-written : (m : Machine) (armed : Bool) → awake m ≡ true → (hasPm1bCnt (m .settings) ≡ false → armed ≡ true → m .armed ≡ true) → armedLegal m ≡ true
+    → onlyIf armed (awake m && hasPm1bCnt (m .settings)) ≡ true
 unfolding armedLegal
-armed-written m armed up na p = only-of armed _ (λ e. both (awake m) (hasB (m .settings)) up (go e (hasB (m .settings)) refl))
+armed-written m armed up na p = only-of armed _ (λ e. both (awake m) (hasPm1bCnt (m .settings)) up (go e (hasPm1bCnt (m .settings)) refl))
   where
-    go : armed ≡ true → (t : Bool) → hasB (m .settings) ≡ t → hasB (m .settings) ≡ true
+    go : armed ≡ true → (t : Bool) → hasPm1bCnt (m .settings) ≡ t → hasPm1bCnt (m .settings) ≡ true
     go e true q = q
-    go e false q = and-right (awake m) (hasB (m .settings)) (only-if (m .armed) _ p (na q e))
+    go e false q = and-right (awake m) (hasPm1bCnt (m .settings)) (only-if (m .armed) _ p (na q e))
 
 sleep-keeps : Keeps Sleep
 unfolding stateAllowed armedLegal awake generalRaised
@@ -165,8 +165,8 @@ held-ticked m n o f l = rw f (hold-below (m .button) (m .hold) n (rw f at o) l)
 awake-not-5 : (m : Machine) → awake m ≡ true → m .state ≡ 5 → ⊥
 awake-not-5 m up e = omega (arith, awake-exactly m .0 up)
 
-light-not-5 : (x : ℕ) → lightSleep x ≡ true → x ≡ 5 → ⊥
-unfolding lightSleep
+light-not-5 : (x : ℕ) → isSleeping x ≡ true → x ≡ 5 → ⊥
+unfolding isSleeping
 light-not-5 x l e = omega (arith, leb-true x 4 (and-right (leb 1 x) (leb x 4) l))
 
 abbrev Button : Machine → Type 0
@@ -282,10 +282,10 @@ abbrev Control : Machine → Type 0
 Control m = (slpTypBLegal m ≡ true) × (slpTypsLegal m ≡ true) × (arbDisLegal m ≡ true)
 
 -- B's SLP_TYP after a control write that leaves it alone where B is absent
-typ-b-written : (m : Machine) (b : ℕ) → (hasB (m .settings) ≡ false → b ≡ m .«slp_typ_b») → slpTypBLegal m ≡ true
-    → onlyIf (not (hasB (m .settings))) (eqb b 0) ≡ true
+typ-b-written : (m : Machine) (b : ℕ) → (hasPm1bCnt (m .settings) ≡ false → b ≡ m .«slp_typ_b») → slpTypBLegal m ≡ true
+    → onlyIf (not (hasPm1bCnt (m .settings))) (eqb b 0) ≡ true
 unfolding slpTypBLegal
-typ-b-written m b nb p = only-of (not (hasB (m .settings))) (eqb b 0) (λ e. rw (nb (not-true _ e)) (only-if _ _ p e))
+typ-b-written m b nb p = only-of (not (hasPm1bCnt (m .settings))) (eqb b 0) (λ e. rw (nb (not-true _ e)) (only-if _ _ p e))
 
 typs-written : (m : Machine) (a b : ℕ) → (m .«slp_typ_a» < 8 → a < 8) → (m .«slp_typ_b» < 8 → b < 8) → slpTypsLegal m ≡ true
     → (ltb a 8 && ltb b 8) ≡ true
@@ -310,7 +310,7 @@ control-keeps =
       arbitrates = λ m arb-dis s p. (p .0, p .1, only-of arb-dis _ (λ e. s));
       sleeps = λ m state up a p. p;
       wakes = λ m l p. p;
-      restarts = λ m f p. (or-true (not (not (hasB (m .settings)))), refl, refl);
+      restarts = λ m f p. (or-true (not (not (hasPm1bCnt (m .settings)))), refl, refl);
       presses = λ m f p. p;
       releases = λ m p. p;
       ticks = λ m n up o p. p;
@@ -539,7 +539,7 @@ power-on-legal s e =
       command = only-of (eqb (s .«smi_cmd») 0) _ (λ z. z);
       command-byte = refl;
       armed = refl;
-      slp-typ-b = or-true (not (not (hasB s)));
+      slp-typ-b = or-true (not (not (hasPm1bCnt s)));
       slp-typs = refl;
     })
 

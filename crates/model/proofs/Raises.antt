@@ -26,11 +26,11 @@ use Rattle.machine.specs.declared.Machine.{Machine}
 use Rattle.model.specs.Answer.{firstApplying}
 use Rattle.model.specs.Bus.{completes, namedState, controlled, controlWritten, gpeWritten, writeOf}
 use Rattle.machine.specs.Cells.{tmrBit, bmBit, gblBit, pwrbtnBit, slpbtnBit, rtcBit, pciexpWakeBit, wakBit, hasBit, laneAt, placed, covered, statusIn, inStatus, onesIn, statusAfter, gpeSts, inGpeStatus, gpeStsAfter}
-use Rattle.model.specs.Events.{fits, raised, inS5, pressOf, signalOf, pcieWakeOf, inGpe0, inGpe1, numberIn, withBit, generalRaised, generalEnabled, generalOf, tmrRaised, timed, ticksOf, eventOf}
+use Rattle.model.specs.Events.{fits, raised, inS5, pressOf, signalWakes, signalOf, pcieWakes, pcieWakeOf, inGpe0, inGpe1, numberIn, withBit, generalRaised, generalEnabled, generalOf, clockAfter, tmrRaised, timed, ticksOf, eventOf}
 use Rattle.machine.specs.Fields.{withTime, enter}
 use Rattle.machine.specs.Lines.{awake}
-use Rattle.model.specs.Raises.{Change, unchanged, clearing, raising, bitsIf, wakIf, pressChange, signalWakes, signalChange, pcieWakeChange, clockAfter, ticksChange, eventChange, wakesAtOnce, writeChange, ruleChange, ifAccepted, raises, clears, liesIn, generalBit, gpeEventChange, gpeOnes, gpeRuleChange, gpeRaises, gpeClears}
-use Rattle.machine.specs.Sleep.{lightSleep, pending, woken, wokenIf, completed, restarted, overridden}
+use Rattle.model.specs.Raises.{Change, unchanged, clearing, raising, bitsIf, wakIf, pressChange, signalChange, pcieWakeChange, ticksChange, eventChange, wakesAtOnce, writeChange, ruleChange, ifAccepted, raises, clears, liesIn, generalBit, gpeEventChange, gpeOnes, gpeRuleChange, gpeRaises, gpeClears}
+use Rattle.machine.specs.Sleep.{isSleeping, pending, woken, wokenIf, completed, restarted, overridden}
 use Rattle.model.specs.Step.{registerOf, offsetOf, doneOf, answerTo, accepted, after}
 use Rattle.model.specs.declared.Answer.the-variants as answer
 use Rattle.model.specs.declared.Event.{Event}
@@ -85,19 +85,19 @@ bits-if-lt k false bits h = pow-pos k
 
 -- ---- sleep
 
-s5-not-light : (m : Machine) → inS5 m ≡ true → lightSleep (m .state) ≡ false
-unfolding inS5 lightSleep
+s5-not-light : (m : Machine) → inS5 m ≡ true → isSleeping (m .state) ≡ false
+unfolding inS5 isSleeping
 s5-not-light m e = rw (eqb-true (m .state) 5 e) refl
 
 woken-status : (test : Bool) (m : Machine) → wokenIf test m .«pm1_sts» ≡ bitOr (m .«pm1_sts») (wakIf m test)
-woken-status test m = go (lightSleep (m .state) && test)
+woken-status test m = go (isSleeping (m .state) && test)
   where
     go : (t : Bool) → cond t (woken m) m .«pm1_sts» ≡ bitOr (m .«pm1_sts») (bitsIf t wakBit)
     go true = refl
     go false = sym (or-zero-r _)
 
 wak-lt : (m : Machine) (test : Bool) → wakIf m test < 2 ^ 16
-wak-lt m test = bits-if-lt 16 (lightSleep (m .state) && test) wakBit (omega arith)
+wak-lt m test = bits-if-lt 16 (isSleeping (m .state) && test) wakBit (omega arith)
 
 -- ---- TMR
 
@@ -135,7 +135,7 @@ module _ (m : Machine) (h : m .«pm1_sts» < 2 ^ 16) where
   signal-law bit true e = rw e nothing
   signal-law bit false e = rw e (woken-status (signalWakes m bit) (raised m bit) ∙ raised-twice 16 (m .«pm1_sts») bit (wakIf m (signalWakes m bit)) h)
 
-  pcie-wake-law : (l d : Bool) → lightSleep (m .state) ≡ l → hasBit (m .«pm1_en») pciexpWakeBit ≡ d → Law (pcieWakeOf m) (pcieWakeChange m)
+  pcie-wake-law : (l d : Bool) → isSleeping (m .state) ≡ l → hasBit (m .«pm1_en») pciexpWakeBit ≡ d → Law (pcieWakeOf m) (pcieWakeChange m)
   unfolding pcieWakeOf pcieWakeChange
   pcie-wake-law true false p q = rw (p, q) (raised-twice 16 (m .«pm1_sts») pciexpWakeBit wakBit h)
   pcie-wake-law true true p q = rw (p, q) nothing
@@ -160,7 +160,7 @@ module _ (m : Machine) (h : m .«pm1_sts» < 2 ^ 16) where
   event-law event.Release = nothing
   event-law event.SleepPress = signal-law slpbtnBit (inS5 m) refl
   event-law event.Alarm = signal-law rtcBit (inS5 m) refl
-  event-law event.PcieWake = pcie-wake-law (lightSleep (m .state)) (hasBit (m .«pm1_en») pciexpWakeBit) refl refl
+  event-law event.PcieWake = pcie-wake-law (isSleeping (m .state)) (hasBit (m .«pm1_en») pciexpWakeBit) refl refl
   event-law event.BusMaster = only-raised 16 (m .«pm1_sts») bmBit h
   event-law event.Unlock = only-raised 16 (m .«pm1_sts») gblBit h
   event-law (event.General k) = general-law k (inS5 m) refl
@@ -168,7 +168,7 @@ module _ (m : Machine) (h : m .«pm1_sts» < 2 ^ 16) where
 
   module _ (width offset written : ℕ) where
     status-write-law : (b t : Bool) → inStatus offset ≡ t
-        → statusAfter m b width offset written ≡ changed 16 (m .«pm1_sts») (clearing (bitsIf t (onesIn (m .settings) b width offset written)))
+        → statusAfter m b width offset written ≡ changed 16 (m .«pm1_sts») (clearing (bitsIf t (onesIn m b width offset written)))
     unfolding statusAfter
     status-write-law b true e = rw e (sym (or-zero-r _))
     status-write-law b false e = rw e nothing
@@ -183,11 +183,11 @@ module _ (m : Machine) (h : m .«pm1_sts» < 2 ^ 16) where
 
     write-law : (r : Register) → Law (writeOf m r width offset written) (writeChange m r width offset written)
     unfolding writeOf writeChange
-    write-law register.Smi = nothing
-    write-law (register.Event b) = status-write-law b (inStatus offset) refl
-    write-law (register.Control b) = control-law b (completes m b width offset written) refl
-    write-law register.Pm2 = nothing
-    write-law register.Timer = nothing
+    write-law register.SmiCmd = nothing
+    write-law (register.Pm1Evt b) = status-write-law b (inStatus offset) refl
+    write-law (register.Pm1Cnt b) = control-law b (completes m b width offset written) refl
+    write-law register.Pm2Cnt = nothing
+    write-law register.PmTmr = nothing
     write-law (register.Gpe true) = nothing
     write-law (register.Gpe false) = nothing
     write-law register.Nowhere = nothing
@@ -231,7 +231,7 @@ module _ (m : Machine) where
   event-fits event.SleepPress = signal-fits slpbtnBit (omega arith)
   event-fits event.Alarm = signal-fits rtcBit (omega arith)
   event-fits event.PcieWake =
-      raising-fits 16 _ (bits-if-lt 16 (lightSleep (m .state) && not (hasBit (m .«pm1_en») pciexpWakeBit)) (bitOr pciexpWakeBit wakBit) (omega arith))
+      raising-fits 16 _ (bits-if-lt 16 (isSleeping (m .state) && not (hasBit (m .«pm1_en») pciexpWakeBit)) (bitOr pciexpWakeBit wakBit) (omega arith))
   event-fits event.BusMaster = raising-fits 16 bmBit (omega arith)
   event-fits event.Unlock = raising-fits 16 gblBit (omega arith)
   event-fits (event.General k) = raising-fits 16 _ (wak-lt m (generalEnabled m k))
@@ -240,12 +240,12 @@ module _ (m : Machine) where
 
   write-fits : (r : Register) (width offset written : ℕ) → Fits 16 (writeChange m r width offset written)
   unfolding writeChange
-  write-fits register.Smi width offset written = unchanged-fits 16
-  write-fits (register.Event b) width offset written =
+  write-fits register.SmiCmd width offset written = unchanged-fits 16
+  write-fits (register.Pm1Evt b) width offset written =
       clearing-fits 16 _ (bits-if-lt 16 (inStatus offset) _ (masked-lt 16 (placed offset written) _ (covered-lt (statusIn (m .settings) b) width offset)))
-  write-fits (register.Control b) width offset written = raising-fits 16 _ (bits-if-lt 16 (wakesAtOnce m b width offset written) wakBit (omega arith))
-  write-fits register.Pm2 width offset written = unchanged-fits 16
-  write-fits register.Timer width offset written = unchanged-fits 16
+  write-fits (register.Pm1Cnt b) width offset written = raising-fits 16 _ (bits-if-lt 16 (wakesAtOnce m b width offset written) wakBit (omega arith))
+  write-fits register.Pm2Cnt width offset written = unchanged-fits 16
+  write-fits register.PmTmr width offset written = unchanged-fits 16
   write-fits (register.Gpe b) width offset written = unchanged-fits 16
   write-fits register.Nowhere width offset written = unchanged-fits 16
 
@@ -312,7 +312,7 @@ module _ (b : Bool) where
   bytes-if false x y m p q = q
 
   woken-bytes : (test : Bool) (m : Machine) → gpeSts (wokenIf test m) b ≡ gpeSts m b
-  woken-bytes test m = bytes-if (lightSleep (m .state) && test) (woken m) m m refl refl
+  woken-bytes test m = bytes-if (isSleeping (m .state) && test) (woken m) m m refl refl
 
   signal-bytes : (m : Machine) (bit : ℕ) → gpeSts (signalOf m bit) b ≡ gpeSts m b
   unfolding signalOf
@@ -321,7 +321,7 @@ module _ (b : Bool) where
   pcie-wake-bytes : (m : Machine) → gpeSts (pcieWakeOf m) b ≡ gpeSts m b
   unfolding pcieWakeOf
   pcie-wake-bytes m =
-      bytes-if (lightSleep (m .state) && not (hasBit (m .«pm1_en») pciexpWakeBit)) (wokenIf true (raised m pciexpWakeBit)) m m
+      bytes-if (isSleeping (m .state) && not (hasBit (m .«pm1_en») pciexpWakeBit)) (wokenIf true (raised m pciexpWakeBit)) m m
       (woken-bytes true (raised m pciexpWakeBit)) refl
 
   timed-bytes : (m : Machine) (t : Clock) → gpeSts (timed m t) b ≡ gpeSts m b
@@ -427,11 +427,11 @@ module _ (m : Machine) (b : Bool) (i : ℕ) (h : getD (gpeSts m b) i 0 < 2 ^ 8) 
 
   gpe-write-law : (r : Register) (width offset written : ℕ) → GpeLaw (writeOf m r width offset written) (clearing (gpeOnes m r offset written b i))
   unfolding writeOf gpeOnes
-  gpe-write-law register.Smi width offset written = same m refl
-  gpe-write-law (register.Event c) width offset written = same m refl
-  gpe-write-law (register.Control c) width offset written = same (controlWritten m c width offset written) (control-bytes b m c width offset written)
-  gpe-write-law register.Pm2 width offset written = same m refl
-  gpe-write-law register.Timer width offset written = same m refl
+  gpe-write-law register.SmiCmd width offset written = same m refl
+  gpe-write-law (register.Pm1Evt c) width offset written = same m refl
+  gpe-write-law (register.Pm1Cnt c) width offset written = same (controlWritten m c width offset written) (control-bytes b m c width offset written)
+  gpe-write-law register.Pm2Cnt width offset written = same m refl
+  gpe-write-law register.PmTmr width offset written = same m refl
   gpe-write-law (register.Gpe c) width offset written = gpe-write-byte m offset written c b i h
   gpe-write-law register.Nowhere width offset written = same m refl
 
@@ -479,11 +479,11 @@ module _ (m : Machine) (b : Bool) (i : ℕ) where
 
   gpe-ones-lt : (r : Register) (offset written : ℕ) → gpeOnes m r offset written b i < 2 ^ 8
   unfolding gpeOnes
-  gpe-ones-lt register.Smi offset written = pow-pos 8
-  gpe-ones-lt (register.Event c) offset written = pow-pos 8
-  gpe-ones-lt (register.Control c) offset written = pow-pos 8
-  gpe-ones-lt register.Pm2 offset written = pow-pos 8
-  gpe-ones-lt register.Timer offset written = pow-pos 8
+  gpe-ones-lt register.SmiCmd offset written = pow-pos 8
+  gpe-ones-lt (register.Pm1Evt c) offset written = pow-pos 8
+  gpe-ones-lt (register.Pm1Cnt c) offset written = pow-pos 8
+  gpe-ones-lt register.Pm2Cnt offset written = pow-pos 8
+  gpe-ones-lt register.PmTmr offset written = pow-pos 8
   gpe-ones-lt (register.Gpe c) offset written =
       bits-if-lt 8 (Bool·beq c b && (inGpeStatus (m .settings) c offset && eqb offset i)) (bitAnd written 255) (masked-lt 8 written 255 (omega arith))
   gpe-ones-lt register.Nowhere offset written = pow-pos 8

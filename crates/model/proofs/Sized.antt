@@ -9,11 +9,10 @@ use Rattle.machine.specs.Cells.{hasBit, pciexpWakeBit, slpbtnBit, rtcBit, gpeSt
 use Rattle.machine.specs.Fields.{enter}
 use Rattle.machine.specs.Lines.{awake}
 use Rattle.machine.specs.PowerOn.{gpeBytes}
-use Rattle.machine.specs.Sleep.{lightSleep, woken, wokenIf, pending, completed, restarted, overridden}
+use Rattle.machine.specs.Sleep.{isSleeping, woken, wokenIf, pending, completed, restarted, overridden}
 use Rattle.machine.specs.declared.Machine.{Machine}
 use Rattle.model.specs.Bus.{completes, controlled, namedState, writeOf}
-use Rattle.model.specs.Events.{raised, inS5, pressOf, signalOf, pcieWakeOf, inGpe0, numberIn, withBit, generalRaised, generalEnabled, generalOf, timed, ticksOf, eventOf}
-use Rattle.model.specs.Raises.{clockAfter}
+use Rattle.model.specs.Events.{raised, inS5, pressOf, signalOf, pcieWakeOf, inGpe0, numberIn, withBit, generalRaised, generalEnabled, generalOf, clockAfter, timed, ticksOf, eventOf}
 use Rattle.model.specs.Step.{registerOf, offsetOf, doneOf, answerTo, accepted, after}
 use Rattle.model.specs.declared.Event.{Event}
 use Rattle.model.specs.declared.Event.the-variants as event
@@ -41,7 +40,7 @@ cond-length true xs ys p q = p
 cond-length false xs ys p q = q
 
 woken-sized : (t : Bool) (m : Machine) → Sized m → Sized (wokenIf t m)
-woken-sized t m s = cond-sized (lightSleep (m .state) && t) (woken m) m (record { first = s .first; second = s .second }) s
+woken-sized t m s = cond-sized (isSleeping (m .state) && t) (woken m) m (record { first = s .first; second = s .second }) s
 
 -- a store keeps the length
 with-bit-length : (xs : List ℕ) (k : ℕ) → length xs ≡ gpeBytes → length (withBit xs k) ≡ gpeBytes
@@ -56,16 +55,16 @@ write-length m b offset written s =
 
 write-sized : (m : Machine) (r : Register) (width offset written : ℕ) → Sized m → Sized (writeOf m r width offset written)
 unfolding writeOf completed
-write-sized m register.Smi width offset written s = record { first = s .first; second = s .second }
-write-sized m (register.Event b) width offset written s = record { first = s .first; second = s .second }
-write-sized m (register.Control b) width offset written s =
+write-sized m register.SmiCmd width offset written s = record { first = s .first; second = s .second }
+write-sized m (register.Pm1Evt b) width offset written s = record { first = s .first; second = s .second }
+write-sized m (register.Pm1Cnt b) width offset written s =
     let to = controlled m b width offset written in
     let state = namedState m b width offset written in
     cond-sized (completes m b width offset written) (completed to state) to
     (woken-sized (pending to state) (enter to state) (record { first = s .first; second = s .second }))
     (record { first = s .first; second = s .second })
-write-sized m register.Pm2 width offset written s = record { first = s .first; second = s .second }
-write-sized m register.Timer width offset written s = s
+write-sized m register.Pm2Cnt width offset written s = record { first = s .first; second = s .second }
+write-sized m register.PmTmr width offset written s = s
 write-sized m (register.Gpe true) width offset written s = record { first = s .first; second = write-length m true offset written s }
 write-sized m (register.Gpe false) width offset written s = record { first = write-length m false offset written s; second = s .second }
 write-sized m register.Nowhere width offset written s = s
@@ -83,7 +82,7 @@ signal-sized m bit s = cond-sized (inS5 m) m (wokenIf _ (raised m bit)) s (woken
 pcie-sized : (m : Machine) → Sized m → Sized (pcieWakeOf m)
 unfolding pcieWakeOf
 pcie-sized m s =
-    cond-sized (lightSleep (m .state) && not (hasBit (m .«pm1_en») pciexpWakeBit)) (wokenIf true (raised m pciexpWakeBit)) m
+    cond-sized (isSleeping (m .state) && not (hasBit (m .«pm1_en») pciexpWakeBit)) (wokenIf true (raised m pciexpWakeBit)) m
     (woken-sized true (raised m pciexpWakeBit) (record { first = s .first; second = s .second })) s
 
 general-sized : (m : Machine) (k : ℕ) → Sized m → Sized (generalOf m k)

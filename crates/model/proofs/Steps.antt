@@ -18,14 +18,14 @@ use Rattle.clock.specs.Clock.{counterBits, holdLimit}
 use Rattle.machine.specs.declared.Machine.{Machine}
 use Rattle.platform.specs.Cells.{wideTimer}
 use Rattle.platform.specs.declared.settings.Settings.{Settings}
-use Rattle.model.specs.Answer.{numberOf, valueOf as valueIn, Line, firstApplying}
+use Rattle.model.specs.Answer.{numberOf, valueOf, Line, firstApplying}
 use Rattle.model.specs.Bus.{readOf, completes, namedState, controlled, writeOf}
 use Rattle.machine.specs.Cells.{slpbtnBit, rtcBit, pciexpWakeBit, hasBit}
 use Rattle.model.specs.Events.{raised, inS5, pressOf, signalOf, pcieWakeOf, generalRaised, generalEnabled, generalOf, ticksOf, eventOf}
 use Rattle.machine.specs.Fields.{enter}
 use Rattle.machine.specs.Lines.{awake}
-use Rattle.machine.specs.Sleep.{lightSleep, woken, wokenIf, pending, completed, restarted}
-use Rattle.model.specs.Step.{registerOf, offsetOf, eventLines, linesOf, valueOf, doneOf, answerTo, accepted, after}
+use Rattle.machine.specs.Sleep.{isSleeping, woken, wokenIf, pending, completed, restarted}
+use Rattle.model.specs.Step.{registerOf, offsetOf, eventLines, linesOf, doneValue, doneOf, answerTo, accepted, after}
 use Rattle.model.specs.declared.Access.{Access}
 use Rattle.model.specs.declared.Answer.{Answer}
 use Rattle.model.specs.declared.Answer.the-variants as answer
@@ -57,7 +57,7 @@ number-among answer.ButtonAlready = inr (lit≤ tt, lit≤ tt)
 number-among answer.NoCommand = inr (lit≤ tt, lit≤ tt)
 
 -- a refusal's value is zero
-refusal-value : (a : Answer) → accepted a ≡ false → valueIn a ≡ 0
+refusal-value : (a : Answer) → accepted a ≡ false → valueOf a ≡ 0
 refusal-value (answer.Done v) e = cc
 refusal-value answer.Asleep e = refl
 refusal-value answer.WrongWidth e = refl
@@ -82,7 +82,7 @@ module _ (m : Machine) (s : Step) where
   unfolding after
   accepted-does e = rw e
 
-  pub refused-value : accepted (answerTo m s) ≡ false → valueIn (answerTo m s) ≡ 0
+  pub refused-value : accepted (answerTo m s) ≡ false → valueOf (answerTo m s) ≡ 0
   refused-value e = refusal-value (answerTo m s) e
 
   pub answer-number : (numberOf (answerTo m s) ≡ 0) ⊎ ((20 ≤ numberOf (answerTo m s)) × (numberOf (answerTo m s) ≤ 31))
@@ -213,7 +213,7 @@ module _ (m : Machine) (s : Step) where
   pub number-exactly : (k : ℕ) → 0 < k → (numberOf (answerTo m s) ≡ k) ↔ LowestRow k (linesOf m s)
   unfolding answerTo
   number-exactly k h =
-      let last = answer.Done (valueOf m s) in
+      let last = answer.Done (doneValue m s) in
       (given-lowest last refl (linesOf m s) 0 k (lines-rise m s) h, lowest-given last (linesOf m s) 0 k (lines-rise m s))
 
   none-accepted : ((k : ℕ) → rowApplies k (linesOf m s) ≡ false) → (t : Bool) → accepted (answerTo m s) ≡ t → numberOf (answerTo m s) ≡ 0
@@ -226,12 +226,12 @@ module _ (m : Machine) (s : Step) where
   pub zero-exactly : (numberOf (answerTo m s) ≡ 0) ↔ ((k : ℕ) → rowApplies k (linesOf m s) ≡ false)
   unfolding answerTo
   zero-exactly =
-      (λ e. accepted-none (answer.Done (valueOf m s)) (linesOf m s) 0 (lines-rise m s) e .1, λ none. none-accepted none _ refl)
+      (λ e. accepted-none (answer.Done (doneValue m s)) (linesOf m s) 0 (lines-rise m s) e .1, λ none. none-accepted none _ refl)
 
   -- an accepted step answers with its value
-  pub accepted-value : accepted (answerTo m s) ≡ true → valueIn (answerTo m s) ≡ valueOf m s
+  pub accepted-value : accepted (answerTo m s) ≡ true → valueOf (answerTo m s) ≡ doneValue m s
   unfolding answerTo
-  accepted-value e = ap valueIn (accepted-none (answer.Done (valueOf m s)) (linesOf m s) 0 (lines-rise m s) (eqb-true _ _ e) .0)
+  accepted-value e = ap valueOf (accepted-none (answer.Done (doneValue m s)) (linesOf m s) 0 (lines-rise m s) (eqb-true _ _ e) .0)
 
 -- ---- settings
 
@@ -241,19 +241,19 @@ cond-settings s true x y p q = p
 cond-settings s false x y p q = q
 
 woken-settings : (t : Bool) (m : Machine) → wokenIf t m .settings ≡ m .settings
-woken-settings t m = cond-settings (m .settings) (lightSleep (m .state) && t) (woken m) m refl refl
+woken-settings t m = cond-settings (m .settings) (isSleeping (m .state) && t) (woken m) m refl refl
 
 write-settings : (m : Machine) (r : Register) (width offset written : ℕ) → writeOf m r width offset written .settings ≡ m .settings
 unfolding writeOf completed
-write-settings m register.Smi width offset written = refl
-write-settings m (register.Event b) width offset written = refl
-write-settings m (register.Control b) width offset written =
+write-settings m register.SmiCmd width offset written = refl
+write-settings m (register.Pm1Evt b) width offset written = refl
+write-settings m (register.Pm1Cnt b) width offset written =
     let written-to = controlled m b width offset written in
     let state = namedState m b width offset written in
     cond-settings (m .settings) (completes m b width offset written) (completed written-to state) written-to
     (woken-settings (pending written-to state) (enter written-to state)) refl
-write-settings m register.Pm2 width offset written = refl
-write-settings m register.Timer width offset written = refl
+write-settings m register.Pm2Cnt width offset written = refl
+write-settings m register.PmTmr width offset written = refl
 write-settings m (register.Gpe true) width offset written = refl
 write-settings m (register.Gpe false) width offset written = refl
 write-settings m register.Nowhere width offset written = refl
@@ -269,7 +269,7 @@ signal-settings m bit = cond-settings (m .settings) (inS5 m) m (wokenIf _ (raise
 pcie-settings : (m : Machine) → pcieWakeOf m .settings ≡ m .settings
 unfolding pcieWakeOf
 pcie-settings m =
-    cond-settings (m .settings) (lightSleep (m .state) && not (hasBit (m .«pm1_en») pciexpWakeBit)) (wokenIf true (raised m pciexpWakeBit)) m
+    cond-settings (m .settings) (isSleeping (m .state) && not (hasBit (m .«pm1_en») pciexpWakeBit)) (wokenIf true (raised m pciexpWakeBit)) m
     (woken-settings true (raised m pciexpWakeBit)) refl
 
 general-settings : (m : Machine) (k : ℕ) → generalOf m k .settings ≡ m .settings
@@ -308,8 +308,8 @@ pub reads-change-nothing : (m : Machine) (a : Access) → after m (step.Read a) 
 unfolding after
 reads-change-nothing m a = cond-same (accepted (answerTo m (step.Read a))) m
 
-pub timer-read : (m : Machine) (a : Access) → registerOf m a ≡ register.Timer → accepted (answerTo m (step.Read a)) ≡ true
-    → valueIn (answerTo m (step.Read a)) ≡ m .counter
+pub timer-read : (m : Machine) (a : Access) → registerOf m a ≡ register.PmTmr → accepted (answerTo m (step.Read a)) ≡ true
+    → valueOf (answerTo m (step.Read a)) ≡ m .counter
 unfolding readOf
 timer-read m a r e = accepted-value m (step.Read a) e ∙ rw r
 
@@ -329,9 +329,9 @@ ticks-done m n = refl
 -- a timer read after ticks gives the counter, gone on by exactly the ticks that ran
 pub timer-read-after-ticks : (m : Machine) (n : ℕ) (a : Access)
     → awake m ≡ true
-    → registerOf m a ≡ register.Timer
+    → registerOf m a ≡ register.PmTmr
     → accepted (answerTo (after m (ticks n)) (step.Read a)) ≡ true
-    → valueIn (answerTo (after m (ticks n)) (step.Read a))
+    → valueOf (answerTo (after m (ticks n)) (step.Read a))
     ≡ counterAfter (counterBits (wideTimer (m .settings))) (m .counter) (ranOf (m .button) (m .settings .«power_override») (m .hold) n)
 timer-read-after-ticks m n a up r e =
     let ticked = after m (ticks n) in
@@ -355,7 +355,7 @@ neither-asleep x h e false u p q n = omega (arith, leb-false 1 x p)
 
 -- a press wakes from S1 to S5
 pub press-wakes : (m : Machine) → m .state ≤ 5 → pressOf m .state ≡ 0
-unfolding pressOf inS5 lightSleep
+unfolding pressOf inS5 isSleeping
 press-wakes m h = go (eqb (m .state) 5) (leb 1 (m .state) && leb (m .state) 4) refl refl
   where
     go : (t u : Bool) → eqb (m .state) 5 ≡ t → (leb 1 (m .state) && leb (m .state) 4) ≡ u

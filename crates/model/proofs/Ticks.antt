@@ -18,7 +18,7 @@ use Rattle.machine.specs.declared.Machine.{Machine}
 use Rattle.platform.specs.Cells.{wideTimer}
 use Rattle.platform.specs.declared.settings.Settings.{Settings}
 use Rattle.machine.specs.Cells.{tmrBit}
-use Rattle.model.specs.Events.{fits, raised, clockOf, tmrRaised, timed, tickedOnce, ticksOf}
+use Rattle.model.specs.Events.{fits, raised, clockOf, clockAfter, tmrRaised, timed, tickedOnce, ticksOf}
 use Rattle.machine.specs.Fields.{withEvent, withTime}
 use Rattle.machine.specs.Lines.{awake}
 use Rattle.machine.specs.Sleep.{overridden}
@@ -30,10 +30,6 @@ clockRun m n t = clockTicks (wideTimer (m .settings)) (m .button) (m .settings .
 
 abbrev clockTick : Machine → Clock → Clock
 clockTick m t = tickOf (wideTimer (m .settings)) (m .button) (m .settings .«power_override») t
-
--- the machine's clock after n ticks
-abbrev pub clockAfter : ℕ → Machine → Clock
-clockAfter n m = clockRun m n (clockOf m)
 
 abbrev clock : ℕ → ℕ → ℕ → Bool → Clock
 clock counter turns hold off = record { counter = counter; turns = turns; hold = hold; off = off }
@@ -102,7 +98,7 @@ unfolding ticksOf tickedOnce
 ticks-asleep zero m e = refl
 ticks-asleep (suc n) m e = rw e (ticks-asleep n m e)
 
-pub ticks-awake : (n : ℕ) (m : Machine) → awake m ≡ true → ticksOf n m ≡ timed m (clockAfter n m)
+pub ticks-awake : (n : ℕ) (m : Machine) → awake m ≡ true → ticksOf n m ≡ timed m (clockAfter m n)
 ticks-awake n m up = ap (ticksOf n) (sym (timed-none m)) ∙ ticks-timed m up n (clockOf m)
 
 -- "Tick, n times": all of them at once
@@ -113,7 +109,7 @@ pub ticks-at-once : (n : ℕ) (m : Machine)
     m
 ticks-at-once n m = go (awake m) refl
   where
-    go : (t : Bool) → awake m ≡ t → ticksOf n m ≡ cond t (timed m (clockAfter n m)) m
+    go : (t : Bool) → awake m ≡ t → ticksOf n m ≡ cond t (timed m (clockAfter m n)) m
     go true e = ticks-awake n m e
     go false e = ticks-asleep n m e
 
@@ -152,7 +148,7 @@ pub ticks-settings : (n : ℕ) (m : Machine) → ticksOf n m .settings ≡ m .se
 ticks-settings n m = rw (ticks-at-once n m, cond-ap (λ (x : Machine). x .settings) (awake m), timed-settings, cond-same)
 
 module _ (n : ℕ) (m : Machine) where
-  clock-closed-form : clockAfter n m ≡ afterOf (wideTimer (m .settings)) (m .button) (m .settings .«power_override») n (clockOf m)
+  clock-closed-form : clockAfter m n ≡ afterOf (wideTimer (m .settings)) (m .button) (m .settings .«power_override») n (clockOf m)
   clock-closed-form = clock-ticks-at-once (wideTimer (m .settings)) (m .button) (m .settings .«power_override») n (clockOf m) refl
 
   -- the same with no recursion over n
@@ -180,9 +176,9 @@ timed-awake-end m t false e end = (e, rw e)
 pub ticks-awake-end : (n : ℕ) (m : Machine)
     → awake m ≡ true
     → awake (ticksOf n m) ≡ true
-    → (clockAfter n m .off ≡ false)
-    × (ticksOf n m ≡ withTime (raised m (tmrRaised (m .settings) (clockAfter n m .turns))) (clockAfter n m .counter) (clockAfter n m .hold))
-ticks-awake-end n m up end = rw (ticks-awake n m up) (timed-awake-end m (clockAfter n m) _ refl (rw (ticks-awake n m up) at end))
+    → (clockAfter m n .off ≡ false)
+    × (ticksOf n m ≡ withTime (raised m (tmrRaised (m .settings) (clockAfter m n .turns))) (clockAfter m n .counter) (clockAfter m n .hold))
+ticks-awake-end n m up end = rw (ticks-awake n m up) (timed-awake-end m (clockAfter m n) _ refl (rw (ticks-awake n m up) at end))
 
 -- ---- from a press
 

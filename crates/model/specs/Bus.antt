@@ -4,7 +4,7 @@ use Prim.Native.Nat.{ℕ, _+_, _/_, _%_, _^_}
 use lib.Dec.{eqb, ltb}
 use Rattle.sleep.specs.Pairs.{stateOf}
 use Rattle.machine.specs.declared.Machine.{Machine}
-use Rattle.machine.specs.Cells.{shown, placed, eventRegister, statusAfter, enableAfter, controlIn, hasB, controlRegister, coversLow, coversHigh, writtenBit, gpeSts, gpeEn, gpeByte, gpeStsAfter, gpeEnAfter}
+use Rattle.machine.specs.Cells.{shown, placed, eventRegister, statusAfter, enableAfter, controlIn, hasPm1bCnt, controlRegister, coversLow, coversHigh, writtenBit, gpeSts, gpeEn, gpeByte, gpeStsAfter, gpeEnAfter}
 use Rattle.machine.specs.Fields.{withEvent, withGpe, withControl, withCommand, withArbDis}
 use Rattle.machine.specs.Sleep.{completed}
 use Rattle.model.specs.declared.Register.{Register}
@@ -20,51 +20,51 @@ dataTooWide width written = not (ltb written (cond (eqb width 1) (2 ^ 8) (cond (
 
 -- 23: "the port lies in no block"
 unfoldable pub leadsNowhere : Register → Bool
-leadsNowhere register.Smi = false
-leadsNowhere (register.Event b) = false
-leadsNowhere (register.Control b) = false
-leadsNowhere register.Pm2 = false
-leadsNowhere register.Timer = false
+leadsNowhere register.SmiCmd = false
+leadsNowhere (register.Pm1Evt b) = false
+leadsNowhere (register.Pm1Cnt b) = false
+leadsNowhere register.Pm2Cnt = false
+leadsNowhere register.PmTmr = false
 leadsNowhere (register.Gpe b) = false
 leadsNowhere register.Nowhere = true
 
 -- "Widths: PM1 one byte, or two bytes at a register's start; GPE, PM2 and SMI_CMD one byte; timer four bytes at its start"
 unfoldable pub allowed : Register → ℕ → ℕ → Bool
-allowed register.Smi width offset = eqb width 1
-allowed (register.Event b) width offset = eqb width 1 || (eqb width 2 && eqb (offset % 2) 0)
-allowed (register.Control b) width offset = eqb width 1 || (eqb width 2 && eqb (offset % 2) 0)
-allowed register.Pm2 width offset = eqb width 1
-allowed register.Timer width offset = eqb width 4 && eqb offset 0
+allowed register.SmiCmd width offset = eqb width 1
+allowed (register.Pm1Evt b) width offset = eqb width 1 || (eqb width 2 && eqb (offset % 2) 0)
+allowed (register.Pm1Cnt b) width offset = eqb width 1 || (eqb width 2 && eqb (offset % 2) 0)
+allowed register.Pm2Cnt width offset = eqb width 1
+allowed register.PmTmr width offset = eqb width 4 && eqb offset 0
 allowed (register.Gpe b) width offset = eqb width 1
 allowed register.Nowhere width offset = true
 
 -- 25: "the timer is written"
 unfoldable pub isTimer : Register → Bool
-isTimer register.Smi = false
-isTimer (register.Event b) = false
-isTimer (register.Control b) = false
-isTimer register.Pm2 = false
-isTimer register.Timer = true
+isTimer register.SmiCmd = false
+isTimer (register.Pm1Evt b) = false
+isTimer (register.Pm1Cnt b) = false
+isTimer register.Pm2Cnt = false
+isTimer register.PmTmr = true
 isTimer (register.Gpe b) = false
 isTimer register.Nowhere = false
 
 -- 26: "a command is written while one waits"
 unfoldable pub commandLost : Machine → Register → Bool
-commandLost m register.Smi = m .«command_waits»
-commandLost m (register.Event b) = false
-commandLost m (register.Control b) = false
-commandLost m register.Pm2 = false
-commandLost m register.Timer = false
+commandLost m register.SmiCmd = m .«command_waits»
+commandLost m (register.Pm1Evt b) = false
+commandLost m (register.Pm1Cnt b) = false
+commandLost m register.Pm2Cnt = false
+commandLost m register.PmTmr = false
 commandLost m (register.Gpe b) = false
 commandLost m register.Nowhere = false
 
 -- what a read gives; "SMI_CMD reads zero"
 unfoldable pub readOf : Machine → Register → ℕ → ℕ → ℕ
-readOf m register.Smi width offset = 0
-readOf m (register.Event b) width offset = shown width offset (eventRegister m b offset)
-readOf m (register.Control b) width offset = shown width offset (controlRegister m b)
-readOf m register.Pm2 width offset = cond (m .«arb_dis») 1 0
-readOf m register.Timer width offset = m .counter
+readOf m register.SmiCmd width offset = 0
+readOf m (register.Pm1Evt b) width offset = shown width offset (eventRegister m b offset)
+readOf m (register.Pm1Cnt b) width offset = shown width offset (controlRegister m b)
+readOf m register.Pm2Cnt width offset = cond (m .«arb_dis») 1 0
+readOf m register.PmTmr width offset = m .counter
 readOf m (register.Gpe b) width offset = gpeByte m b offset
 readOf m register.Nowhere width offset = 0
 
@@ -85,25 +85,25 @@ typAfter m b false width offset written = cond (not b && coversHigh width offset
 
 -- "With B absent, SLP_EN completes at A. Otherwise .. SLP_EN at B while armed completes."
 unfoldable pub completes : Machine → Bool → ℕ → ℕ → ℕ → Bool
-completes m b width offset written = setsSlpEn width offset written && cond (hasB (m .settings)) (b && m .armed) (not b)
+completes m b width offset written = setsSlpEn width offset written && cond (hasPm1bCnt (m .settings)) (b && m .armed) (not b)
 
 -- "SLP_EN at A arms, any such write without SLP_EN disarms"; completing disarms too, and SLP_EN at B unarmed leaves it so
 unfoldable pub armedAfter : Machine → Bool → ℕ → ℕ → ℕ → Bool
 armedAfter m b width offset written =
-    cond (coversHigh width offset) (writtenBit offset written 13 && (hasB (m .settings) && not b)) (m .armed)
+    cond (coversHigh width offset) (writtenBit offset written 13 && (hasPm1bCnt (m .settings) && not b)) (m .armed)
 
 -- "The pair names the state": A's latched type and B's, with what this write latches
 abbrev pub namedState : Machine → Bool → ℕ → ℕ → ℕ → ℕ
 namedState m b width offset written =
-    stateOf (hasB (m .settings)) (typAfter m b false width offset written) (typAfter m b true width offset written) (m .settings .sleep .pairs)
+    stateOf (hasPm1bCnt (m .settings)) (typAfter m b false width offset written) (typAfter m b true width offset written) (m .settings .sleep .pairs)
 
 -- 27: "a sleep-completing write matches none of S1 to S5"
 unfoldable pub namesNone : Machine → Register → ℕ → ℕ → ℕ → Bool
-namesNone m register.Smi width offset written = false
-namesNone m (register.Event b) width offset written = false
-namesNone m (register.Control b) width offset written = completes m b width offset written && eqb (namedState m b width offset written) 0
-namesNone m register.Pm2 width offset written = false
-namesNone m register.Timer width offset written = false
+namesNone m register.SmiCmd width offset written = false
+namesNone m (register.Pm1Evt b) width offset written = false
+namesNone m (register.Pm1Cnt b) width offset written = completes m b width offset written && eqb (namedState m b width offset written) 0
+namesNone m register.Pm2Cnt width offset written = false
+namesNone m register.PmTmr width offset written = false
 namesNone m (register.Gpe b) width offset written = false
 namesNone m register.Nowhere width offset written = false
 
@@ -137,11 +137,11 @@ gpeWritten m true offset written = withGpe m (m .«gpe0_sts») (m .«gpe0_en») 
 
 -- what an accepted write does; "A command write latches the byte", "PM2 bit 0 is ARB_DIS"
 unfoldable pub writeOf : Machine → Register → ℕ → ℕ → ℕ → Machine
-writeOf m register.Smi width offset written = withCommand m true written
-writeOf m (register.Event b) width offset written =
+writeOf m register.SmiCmd width offset written = withCommand m true written
+writeOf m (register.Pm1Evt b) width offset written =
     withEvent m (statusAfter m b width offset written) (enableAfter m b width offset written)
-writeOf m (register.Control b) width offset written = controlWritten m b width offset written
-writeOf m register.Pm2 width offset written = withArbDis m (eqb (written % 2) 1)
-writeOf m register.Timer width offset written = m
+writeOf m (register.Pm1Cnt b) width offset written = controlWritten m b width offset written
+writeOf m register.Pm2Cnt width offset written = withArbDis m (eqb (written % 2) 1)
+writeOf m register.PmTmr width offset written = m
 writeOf m (register.Gpe b) width offset written = gpeWritten m b offset written
 writeOf m register.Nowhere width offset written = m

@@ -6,7 +6,7 @@ use lib.Bits.{bitAnd, bitOr}
 use lib.Dec.{eqb, ltb, leb}
 use lib.ListN.{getD, set}
 use Rattle.cells.specs.Cells.{flagOf}
-use Rattle.clock.specs.Clock.{tickOf, startOf}
+use Rattle.clock.specs.Clock.{tickOf, startOf, ticksOf as clockTicks}
 use Rattle.clock.specs.declared.Clock.{Clock}
 use Rattle.platform.specs.Blocks.{present}
 use Rattle.platform.specs.Cells.{statusCells, wideTimer}
@@ -16,7 +16,7 @@ use Rattle.machine.specs.declared.Machine.{Machine}
 use Rattle.machine.specs.Cells.{tmrBit, bmBit, gblBit, pwrbtnBit, slpbtnBit, rtcBit, pciexpWakeBit, hasBit, gpeSts, gpeEn}
 use Rattle.machine.specs.Fields.{withEvent, withGpe, withButton, withTime, enter}
 use Rattle.machine.specs.Lines.{awake}
-use Rattle.machine.specs.Sleep.{lightSleep, wakeBits, wokenIf, restarted, overridden}
+use Rattle.machine.specs.Sleep.{isSleeping, wakeBits, wokenIf, restarted, overridden}
 use Rattle.model.specs.declared.Event.{Event}
 use Rattle.model.specs.declared.Event.the-variants as event
 
@@ -41,14 +41,21 @@ pressOf m = withButton (raised (cond (inS5 m) (restarted m) (wokenIf true m)) pw
 abbrev pub releaseOf : Machine → Machine
 releaseOf m = withButton m false (m .hold)
 
--- "sleep press, alarm .. if enabled (alarm in S4 only with flag 7)"; "In S5 .. other accepted events change nothing"
-unfoldable pub signalOf : Machine → ℕ → Machine
-signalOf m bit =
-    cond (inS5 m) m (wokenIf (hasBit (m .«pm1_en») bit && hasBit (wakeBits (m .settings) (m .state)) bit) (raised m bit))
+-- "sleep press, alarm .. if enabled (alarm in S4 only with flag 7)"
+abbrev pub signalWakes : Machine → ℕ → Bool
+signalWakes m bit = hasBit (m .«pm1_en») bit && hasBit (wakeBits (m .settings) (m .state)) bit
 
--- "PCIe wake does nothing in S0"; "PCIe wake if its disable is clear, and only then is its bit set"
+-- "Sleep press, alarm .. set their bits"; "In S5 .. other accepted events change nothing"
+unfoldable pub signalOf : Machine → ℕ → Machine
+signalOf m bit = cond (inS5 m) m (wokenIf (signalWakes m bit) (raised m bit))
+
+-- "PCIe wake if its disable is clear"; it "does nothing in S0"
+abbrev pub pcieWakes : Machine → Bool
+pcieWakes m = isSleeping (m .state) && not (hasBit (m .«pm1_en») pciexpWakeBit)
+
+-- ".. and only then is its bit set"
 unfoldable pub pcieWakeOf : Machine → Machine
-pcieWakeOf m = cond (lightSleep (m .state) && not (hasBit (m .«pm1_en») pciexpWakeBit)) (wokenIf true (raised m pciexpWakeBit)) m
+pcieWakeOf m = cond (pcieWakes m) (wokenIf true (raised m pciexpWakeBit)) m
 
 -- ---- general events
 
@@ -91,6 +98,10 @@ generalOf m k = cond (inS5 m) m (wokenIf (generalEnabled m k) (generalRaised m k
 -- the clock that a tick of the machine finds
 abbrev pub clockOf : Machine → Clock
 clockOf m = startOf (m .counter) (m .hold)
+
+-- .. and the clock after n ticks
+abbrev pub clockAfter : Machine → ℕ → Clock
+clockAfter m n = clockTicks (wideTimer (m .settings)) (m .button) (m .settings .«power_override») n (clockOf m)
 
 -- "TMR, if fitted, is set when its top bit changes"
 unfoldable pub tmrRaised : Settings → ℕ → ℕ

@@ -13,7 +13,7 @@ use Rattle.platform.specs.Blocks.{present}
 use Rattle.platform.specs.Cells.{statusCells, enableCells, wideTimer}
 use Rattle.platform.specs.Legal.{legalSettings}
 use Rattle.platform.specs.declared.settings.Settings.{Settings}
-use Rattle.machine.specs.Cells.{pwrbtnBit, hasB, gpeHalf, gpeSts, gpeEn}
+use Rattle.machine.specs.Cells.{pwrbtnBit, hasPm1bCnt, gpeHalf, gpeSts, gpeEn}
 use Rattle.machine.specs.Lines.{awake}
 use Rattle.machine.specs.PowerOn.{gpeBytes}
 use Rattle.machine.specs.declared.Machine.{Machine}
@@ -76,11 +76,11 @@ commandByteLegal m = ltb (m .command) 256 && onlyIf (not (m .«command_waits»))
 
 -- "armed only in S0 with B control"
 unfoldable pub armedLegal : Machine → Bool
-armedLegal m = onlyIf (m .armed) (awake m && hasB (m .settings))
+armedLegal m = onlyIf (m .armed) (awake m && hasPm1bCnt (m .settings))
 
 -- "B's SLP_TYP zero without B"
 unfoldable pub slpTypBLegal : Machine → Bool
-slpTypBLegal m = onlyIf (not (hasB (m .settings))) (eqb (m .«slp_typ_b») 0)
+slpTypBLegal m = onlyIf (not (hasPm1bCnt (m .settings))) (eqb (m .«slp_typ_b») 0)
 
 -- each SLP_TYP has three bits
 unfoldable pub slpTypsLegal : Machine → Bool

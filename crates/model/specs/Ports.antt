@@ -14,13 +14,13 @@ use Rattle.model.specs.declared.Register.the-variants as register
 -- the registers of the blocks, in the blocks' order
 abbrev pub registers : List Register
 registers =
-    register.Smi ∷
-    register.Event false ∷
-    register.Event true ∷
-    register.Control false ∷
-    register.Control true ∷
-    register.Pm2 ∷
-    register.Timer ∷
+    register.SmiCmd ∷
+    register.Pm1Evt false ∷
+    register.Pm1Evt true ∷
+    register.Pm1Cnt false ∷
+    register.Pm1Cnt true ∷
+    register.Pm2Cnt ∷
+    register.PmTmr ∷
     register.Gpe false ∷
     register.Gpe true ∷
     []

@@ -4,16 +4,13 @@ use mathlib.Core.Bool.{Bool, true, not, cond, _&&_, Bool·beq}
 use Prim.Native.Nat.{ℕ, _-_, _/_, _%_, _^_}
 use lib.Bits.{bitAnd, bitOr}
 use lib.Dec.{eqb}
-use Rattle.clock.specs.Clock.{ticksOf}
-use Rattle.clock.specs.declared.Clock.{Clock}
-use Rattle.platform.specs.Cells.{wideTimer}
 use Rattle.platform.specs.declared.settings.Settings.{Settings}
 use Rattle.machine.specs.declared.Machine.{Machine}
 use Rattle.model.specs.Bus.{completes, namedState}
-use Rattle.machine.specs.Cells.{bmBit, gblBit, pwrbtnBit, slpbtnBit, rtcBit, pciexpWakeBit, wakBit, hasBit, inStatus, onesIn, inGpeStatus}
-use Rattle.model.specs.Events.{inS5, inGpe0, numberIn, generalEnabled, clockOf, tmrRaised}
+use Rattle.machine.specs.Cells.{bmBit, gblBit, pwrbtnBit, slpbtnBit, rtcBit, pciexpWakeBit, wakBit, inStatus, onesIn, inGpeStatus}
+use Rattle.model.specs.Events.{inS5, signalWakes, pcieWakes, inGpe0, numberIn, generalEnabled, clockAfter, tmrRaised}
 use Rattle.machine.specs.Lines.{awake}
-use Rattle.machine.specs.Sleep.{lightSleep, wakeBits, pending}
+use Rattle.machine.specs.Sleep.{isSleeping, pending}
 use Rattle.model.specs.Step.{registerOf, offsetOf, answerTo, accepted}
 use Rattle.model.specs.declared.Event.{Event}
 use Rattle.model.specs.declared.Event.the-variants as event
@@ -44,15 +41,11 @@ bitsIf test bits = cond test bits 0
 
 -- "Wake from S1 to S4 .. WAK is set."
 abbrev pub wakIf : Machine → Bool → ℕ
-wakIf m test = bitsIf (lightSleep (m .state) && test) wakBit
+wakIf m test = bitsIf (isSleeping (m .state) && test) wakBit
 
 -- "Press sets PWRBTN"; "a press always" wakes; "From S5 .. all PM1 .. cells .. zero, then PWRBTN set; .. WAK not set"
 unfoldable pub pressChange : Machine → Change
 pressChange m = record { cleared = bitsIf (inS5 m) (2 ^ 16 - 1); raised = bitOr (wakIf m true) pwrbtnBit }
-
--- a sleep press or alarm wakes "if enabled (alarm in S4 only with flag 7)"
-abbrev pub signalWakes : Machine → ℕ → Bool
-signalWakes m bit = hasBit (m .«pm1_en») bit && hasBit (wakeBits (m .settings) (m .state)) bit
 
 -- "Sleep press, alarm .. set their bits"; "In S5 .. other accepted events change nothing"
 unfoldable pub signalChange : Machine → ℕ → Change
@@ -60,11 +53,7 @@ signalChange m bit = raising (bitsIf (not (inS5 m)) (bitOr bit (wakIf m (signalW
 
 -- "PCIe wake if its disable is clear, and only then is its bit set"
 unfoldable pub pcieWakeChange : Machine → Change
-pcieWakeChange m = raising (bitsIf (lightSleep (m .state) && not (hasBit (m .«pm1_en») pciexpWakeBit)) (bitOr pciexpWakeBit wakBit))
-
--- the clock after n ticks
-abbrev pub clockAfter : Machine → ℕ → Clock
-clockAfter m n = ticksOf (wideTimer (m .settings)) (m .button) (m .settings .«power_override») n (clockOf m)
+pcieWakeChange m = raising (bitsIf (pcieWakes m) (bitOr pciexpWakeBit wakBit))
 
 -- "in S0 only: .. TMR, if fitted, is set when its top bit changes", at one of the ticks that ran; the override "clears PWRBTN"
 unfoldable pub ticksChange : Machine → ℕ → Change
@@ -90,15 +79,15 @@ eventChange m (event.Ticks n) = ticksChange m n
 unfoldable pub wakesAtOnce : Machine → Bool → ℕ → ℕ → ℕ → Bool
 wakesAtOnce m b width offset written =
     let state = namedState m b width offset written in
-    completes m b width offset written && (lightSleep state && pending m state)
+    completes m b width offset written && (isSleeping state && pending m state)
 
 -- "Writing one to a status bit clears it", in its home; a control write that wakes sets WAK
 unfoldable pub writeChange : Machine → Register → ℕ → ℕ → ℕ → Change
-writeChange m register.Smi width offset written = unchanged
-writeChange m (register.Event b) width offset written = clearing (bitsIf (inStatus offset) (onesIn (m .settings) b width offset written))
-writeChange m (register.Control b) width offset written = raising (bitsIf (wakesAtOnce m b width offset written) wakBit)
-writeChange m register.Pm2 width offset written = unchanged
-writeChange m register.Timer width offset written = unchanged
+writeChange m register.SmiCmd width offset written = unchanged
+writeChange m (register.Pm1Evt b) width offset written = clearing (bitsIf (inStatus offset) (onesIn m b width offset written))
+writeChange m (register.Pm1Cnt b) width offset written = raising (bitsIf (wakesAtOnce m b width offset written) wakBit)
+writeChange m register.Pm2Cnt width offset written = unchanged
+writeChange m register.PmTmr width offset written = unchanged
 writeChange m (register.Gpe b) width offset written = unchanged
 writeChange m register.Nowhere width offset written = unchanged
 
@@ -146,11 +135,11 @@ gpeEventChange m (event.Ticks n) b i = unchanged
 
 -- "GPE: status bytes, .. the same rules": the ones written to byte i of the block
 unfoldable pub gpeOnes : Machine → Register → ℕ → ℕ → Bool → ℕ → ℕ
-gpeOnes m register.Smi offset written b i = 0
-gpeOnes m (register.Event c) offset written b i = 0
-gpeOnes m (register.Control c) offset written b i = 0
-gpeOnes m register.Pm2 offset written b i = 0
-gpeOnes m register.Timer offset written b i = 0
+gpeOnes m register.SmiCmd offset written b i = 0
+gpeOnes m (register.Pm1Evt c) offset written b i = 0
+gpeOnes m (register.Pm1Cnt c) offset written b i = 0
+gpeOnes m register.Pm2Cnt offset written b i = 0
+gpeOnes m register.PmTmr offset written b i = 0
 gpeOnes m (register.Gpe c) offset written b i =
     bitsIf (Bool·beq c b && (inGpeStatus (m .settings) c offset && eqb offset i)) (bitAnd written 255)
 gpeOnes m register.Nowhere offset written b i = 0

@@ -29,7 +29,7 @@ offsetOf m a = offsetAt (m .settings) (a .port)
 
 -- ---- the lines of the table, by the kind of step
 
--- 20, 21, 23 and 24, of a read
+-- 20, then 21, 23 and 24: of a read
 abbrev pub readLines : Machine → Access → List Line
 readLines m a =
     answer.Asleep if not (awake m) ∷
@@ -38,7 +38,7 @@ readLines m a =
     answer.NotAllowed if not (allowed (registerOf m a) (a .width) (offsetOf m a)) ∷
     []
 
--- 20 to 27, of a write
+-- 20, then 21 to 27: of a write
 abbrev pub writeLines : Machine → Access → ℕ → List Line
 writeLines m a written =
     answer.Asleep if not (awake m) ∷
@@ -74,12 +74,12 @@ linesOf m step.Drop = answer.Asleep if not (awake m) ∷ []
 -- ---- the step
 
 -- "Value is the reading or the command taken, else zero."
-abbrev pub valueOf : Machine → Step → ℕ
-valueOf m (step.Read a) = readOf m (registerOf m a) (a .width) (offsetOf m a)
-valueOf m (step.Write a written) = 0
-valueOf m (step.Event e) = 0
-valueOf m step.Take = m .command
-valueOf m step.Drop = 0
+abbrev pub doneValue : Machine → Step → ℕ
+doneValue m (step.Read a) = readOf m (registerOf m a) (a .width) (offsetOf m a)
+doneValue m (step.Write a written) = 0
+doneValue m (step.Event e) = 0
+doneValue m step.Take = m .command
+doneValue m step.Drop = 0
 
 -- what an accepted step does
 abbrev pub doneOf : Machine → Step → Machine
@@ -91,7 +91,7 @@ doneOf m step.Drop = dropOf m
 
 -- "The lowest number that applies is given; otherwise 0."
 unfoldable pub answerTo : Machine → Step → Answer
-answerTo m s = firstApplying (linesOf m s) (answer.Done (valueOf m s))
+answerTo m s = firstApplying (linesOf m s) (answer.Done (doneValue m s))
 
 -- the step was accepted
 abbrev pub accepted : Answer → Bool

@@ -61,11 +61,11 @@ pub struct Stepped {
 
 // Where a port leads; of two blocks, true is block B, or GPE1.
 pub enum Register {
-    Smi,
-    Event(bool),
-    Control(bool),
-    Pm2,
-    Timer,
+    SmiCmd,
+    Pm1Evt(bool),
+    Pm1Cnt(bool),
+    Pm2Cnt,
+    PmTmr,
     Gpe(bool),
     Nowhere,
 }

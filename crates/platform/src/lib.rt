@@ -9,6 +9,7 @@ pub use block::is_present;
 pub use block::offset;
 pub use rules::SetUpAnswer;
 pub use rules::blocks;
+pub use rules::event_count;
 pub use rules::judge;
 pub use rules::number;
 pub use settings::Settings;

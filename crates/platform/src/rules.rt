@@ -236,7 +236,7 @@ fn overlap_refused(s: Settings) -> bool
     any_overlap(blocks(s))
 }
 
-fn event_count(b: Block) -> u64
+pub fn event_count(b: Block) -> u64
     ensures { λ r. ⌜ r ≡ eventCount b ⌝ }
 {
     4 * (b.length as u64)

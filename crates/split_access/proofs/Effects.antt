@@ -18,7 +18,7 @@ use Rattle.machine.specs.Cells.{pwrbtnBit, slpbtnBit, rtcBit, pciexpWakeBit, bm
 use Rattle.model.specs.Events.{fits, raised, pressOf, signalOf, pcieWakeOf, generalOf, generalRaised, inGpe0, inGpe1, withBit, numberIn, inS5, tmrRaised, timed, ticksOf, eventOf}
 use Rattle.machine.specs.Fields.{withEvent, withGpe, withButton, withTime}
 use Rattle.machine.specs.Lines.{awake}
-use Rattle.machine.specs.Sleep.{lightSleep, wokenIf}
+use Rattle.machine.specs.Sleep.{isSleeping, wokenIf}
 use Rattle.model.specs.Step.{answerTo, after, eventLines, accepted}
 use Rattle.model.proofs.Ticks.{ticks-awake}
 use Rattle.model.specs.declared.Answer.{Answer}
@@ -125,7 +125,7 @@ Affects m e =
     (answerTo m (step.Event e) ≡ effectOf (m .settings) e .answer (m .button)) × (after m (step.Event e) ≡ affected (effectOf (m .settings) e) m)
 
 press-affects : (m : Machine) → m .state ≡ 0 → Affects m event.Press
-unfolding answerTo after firstApplying eventOf pressOf inS5 lightSleep
+unfolding answerTo after firstApplying eventOf pressOf inS5 isSleeping
 press-affects m z = go (fits (m .settings) pwrbtnBit) (m .button) refl refl
   where
     go : (f b : Bool) → fits (m .settings) pwrbtnBit ≡ f → m .button ≡ b → Affects m event.Press
@@ -144,7 +144,7 @@ release-affects m = go (fits (m .settings) pwrbtnBit) (m .button) refl refl
 
 -- a button or alarm awake: its bit, where it is fitted
 signal-done : (m : Machine) (bit : ℕ) → m .state ≡ 0 → signalOf m bit ≡ raised m bit
-unfolding signalOf inS5 lightSleep
+unfolding signalOf inS5 isSleeping
 signal-done m bit z = rw z refl
 
 sleep-press-affects : (m : Machine) → m .state ≡ 0 → Affects m event.SleepPress
@@ -164,7 +164,7 @@ alarm-affects m z = go (fits (m .settings) rtcBit) refl
     go true p = rw (p, signal-done m rtcBit z) (refl, refl)
 
 pcie-wake-affects : (m : Machine) → m .state ≡ 0 → Affects m event.PcieWake
-unfolding answerTo after firstApplying eventOf pcieWakeOf lightSleep
+unfolding answerTo after firstApplying eventOf pcieWakeOf isSleeping
 pcie-wake-affects m z = go (fits (m .settings) pciexpWakeBit) refl
   where
     go : (f : Bool) → fits (m .settings) pciexpWakeBit ≡ f → Affects m event.PcieWake
@@ -180,7 +180,7 @@ unfolding answerTo after firstApplying eventOf awake
 unlock-affects m z = rw z (refl, refl)
 
 general-affects : (m : Machine) (k : ℕ) → m .state ≡ 0 → Affects m (event.General k)
-unfolding answerTo after firstApplying eventOf generalOf generalRaised inS5 lightSleep
+unfolding answerTo after firstApplying eventOf generalOf generalRaised inS5 isSleeping
 general-affects m k z = go (inGpe0 (m .settings) k) (inGpe1 (m .settings) k) refl refl
   where
     go : (f g : Bool) → inGpe0 (m .settings) k ≡ f → inGpe1 (m .settings) k ≡ g → Affects m (event.General k)

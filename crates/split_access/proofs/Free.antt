@@ -9,7 +9,7 @@ use lib.Bits.{bitAnd}
 use Rattle.runs.proofs.Runs.{Commute}
 use Rattle.platform.specs.declared.settings.Settings.{Settings}
 use Rattle.machine.specs.declared.Machine.{Machine}
-use Rattle.machine.specs.Cells.{statusIn, onesIn, hasB}
+use Rattle.machine.specs.Cells.{statusIn, onesIn, hasPm1bCnt}
 use Rattle.model.specs.Ports.{registerAt}
 use Rattle.model.specs.Step.{answerTo, after, offsetOf}
 use Rattle.model.specs.declared.Access.{Access}
@@ -30,12 +30,12 @@ pub record Ok (s : Settings) (m : Machine) : Type 0 where
 
 -- a half access to the event registers of a block, or to block A's control register with block B present
 pub data EventHalf (s : Settings) (b : Bool) : Step → Type 0 where
-  event-read : (a : Access) → registerAt s (a .port) ≡ register.Event b → EventHalf s b (step.Read a)
-  event-write : (a : Access) (written : ℕ) → registerAt s (a .port) ≡ register.Event b → EventHalf s b (step.Write a written)
+  event-read : (a : Access) → registerAt s (a .port) ≡ register.Pm1Evt b → EventHalf s b (step.Read a)
+  event-write : (a : Access) (written : ℕ) → registerAt s (a .port) ≡ register.Pm1Evt b → EventHalf s b (step.Write a written)
 
 pub data ControlHalf (s : Settings) : Step → Type 0 where
-  control-read : (a : Access) → registerAt s (a .port) ≡ register.Control false → ControlHalf s (step.Read a)
-  control-write : (a : Access) (written : ℕ) → registerAt s (a .port) ≡ register.Control false → hasB s ≡ true → ControlHalf s (step.Write a written)
+  control-read : (a : Access) → registerAt s (a .port) ≡ register.Pm1Cnt false → ControlHalf s (step.Read a)
+  control-write : (a : Access) (written : ℕ) → registerAt s (a .port) ≡ register.Pm1Cnt false → hasPm1bCnt s ≡ true → ControlHalf s (step.Write a written)
 
 pub data Free (s : Settings) : Step → Step → Type 0 where
   past-control : {x : Step} (e : Event) → ControlHalf s x → Free s x (step.Event e)
@@ -53,8 +53,8 @@ event-half-passes m b e x (event-read a r) h =
     event-read-passes m e a b r (raises-at-home (m .settings) e b h (m .button) (m .hold) (m .counter))
 event-half-passes m b e x (event-write a written r) h =
     event-write-passes m e a written b r
-    (ones-at-home (m .settings) b (a .width) (offsetOf m a) written (maskOf (m .settings) e (m .button) (m .hold) (m .counter)) (raises-at-home (m .settings) e b h (m .button) (m .hold) (m .counter)))
-    (ones-small (m .settings) b (a .width) (offsetOf m a) written)
+    (ones-at-home m b (a .width) (offsetOf m a) written (maskOf (m .settings) e (m .button) (m .hold) (m .counter)) (raises-at-home (m .settings) e b h (m .button) (m .hold) (m .counter)))
+    (ones-small m b (a .width) (offsetOf m a) written)
     (raises-small (m .settings) e (m .button) (m .hold) (m .counter))
 
 control-half-passes : (m : Machine) (e : Event) (x : Step) → ControlHalf (m .settings) x → Passes m e x

@@ -13,7 +13,7 @@ use Rattle.runs.proofs.Runs.{Commute}
 use Rattle.machine.specs.declared.Machine.{Machine}
 use Rattle.model.specs.Answer.{firstApplying}
 use Rattle.model.specs.Bus.{commandLost, namesNone, readOf, writeOf, completes, controlled, typAfter, armedAfter, bmRldAfter, gblRlsAfter}
-use Rattle.machine.specs.Cells.{statusIn, onesIn, inStatus, statusAfter, enableAfter, hasB}
+use Rattle.machine.specs.Cells.{statusIn, onesIn, inStatus, statusAfter, enableAfter, hasPm1bCnt}
 use Rattle.machine.specs.Fields.{withEvent}
 use Rattle.machine.specs.Lines.{awake}
 use Rattle.model.specs.Step.{answerTo, after, accepted, registerOf, offsetOf}
@@ -85,14 +85,14 @@ module _ (m : Machine) (g : Event) where
   read-passes a shows = record { n = m; same = same-self m; half = read-stays m a; shows = shows; does = read-stays E a }
 
   -- "Elsewhere .. reads give zero": the event's bit does not show in the other block
-  pub event-read-passes : (a : Access) (b : Bool) → registerOf m a ≡ register.Event b → bitAnd mask (statusIn (m .settings) b) ≡ 0 → Passes m g (step.Read a)
+  pub event-read-passes : (a : Access) (b : Bool) → registerOf m a ≡ register.Pm1Evt b → bitAnd mask (statusIn (m .settings) b) ≡ 0 → Passes m g (step.Read a)
   unfolding answerTo readOf awake
   event-read-passes a b r d =
       read-passes a
       (rw (r, read-after-raise (m .«pm1_sts») mask (statusIn (m .settings) b) d) refl)
 
   -- no event changes a control cell
-  pub control-read-passes : (a : Access) (b : Bool) → registerOf m a ≡ register.Control b → Passes m g (step.Read a)
+  pub control-read-passes : (a : Access) (b : Bool) → registerOf m a ≡ register.Pm1Cnt b → Passes m g (step.Read a)
   unfolding answerTo readOf awake
   control-read-passes a b r = read-passes a (rw r refl)
 
@@ -110,28 +110,28 @@ module _ (m : Machine) (g : Event) where
         does = rw (← shows, e) refl;
       }
 
-  event-write-shows : (a : Access) (written : ℕ) (b : Bool) → registerOf m a ≡ register.Event b → answerTo m (step.Write a written) ≡ answerTo E (step.Write a written)
+  event-write-shows : (a : Access) (written : ℕ) (b : Bool) → registerOf m a ≡ register.Pm1Evt b → answerTo m (step.Write a written) ≡ answerTo E (step.Write a written)
   unfolding answerTo awake commandLost namesNone
   event-write-shows a written b r = rw r refl
 
   status-passes : (a : Access) (written : ℕ) (b : Bool)
-      → bitAnd mask (onesIn (m .settings) b (a .width) (offsetOf m a) written) ≡ 0
-      → onesIn (m .settings) b (a .width) (offsetOf m a) written < 2 ^ 16
+      → bitAnd mask (onesIn m b (a .width) (offsetOf m a) written) ≡ 0
+      → onesIn m b (a .width) (offsetOf m a) written < 2 ^ 16
       → mask < 2 ^ 16
       → statusAfter E b (a .width) (offsetOf m a) written ≡ bitOr (statusAfter m b (a .width) (offsetOf m a) written) mask
   unfolding statusAfter
   status-passes a written b d ones< mask< = go (inStatus (offsetOf m a))
     where
       go : (t : Bool)
-          → cond t (kept 16 (bitOr (m .«pm1_sts») mask) (onesIn (m .settings) b (a .width) (offsetOf m a) written)) (bitOr (m .«pm1_sts») mask)
-          ≡ bitOr (cond t (kept 16 (m .«pm1_sts») (onesIn (m .settings) b (a .width) (offsetOf m a) written)) (m .«pm1_sts»)) mask
+          → cond t (kept 16 (bitOr (m .«pm1_sts») mask) (onesIn m b (a .width) (offsetOf m a) written)) (bitOr (m .«pm1_sts») mask)
+          ≡ bitOr (cond t (kept 16 (m .«pm1_sts») (onesIn m b (a .width) (offsetOf m a) written)) (m .«pm1_sts»)) mask
       go true = raise-after-kept 16 (m .«pm1_sts») _ mask ones< mask< d
       go false = refl
 
   -- a write to the event cells of the other block
-  pub event-write-passes : (a : Access) (written : ℕ) (b : Bool) → registerOf m a ≡ register.Event b
-      → bitAnd mask (onesIn (m .settings) b (a .width) (offsetOf m a) written) ≡ 0
-      → onesIn (m .settings) b (a .width) (offsetOf m a) written < 2 ^ 16
+  pub event-write-passes : (a : Access) (written : ℕ) (b : Bool) → registerOf m a ≡ register.Pm1Evt b
+      → bitAnd mask (onesIn m b (a .width) (offsetOf m a) written) ≡ 0
+      → onesIn m b (a .width) (offsetOf m a) written < 2 ^ 16
       → mask < 2 ^ 16
       → Passes m g (step.Write a written)
   unfolding after writeOf enableAfter
@@ -152,21 +152,21 @@ module _ (m : Machine) (g : Event) where
           }
 
   -- a write to block A's control cells, with block B present: it may arm, and completes nothing
-  completes-not : (width offset written : ℕ) → hasB (m .settings) ≡ true → completes m false width offset written ≡ false
+  completes-not : (width offset written : ℕ) → hasPm1bCnt (m .settings) ≡ true → completes m false width offset written ≡ false
   unfolding completes
   completes-not width offset written h = rw (h, and-false) refl
 
-  completes-not′ : (width offset written : ℕ) → hasB (m .settings) ≡ true → completes E false width offset written ≡ false
+  completes-not′ : (width offset written : ℕ) → hasPm1bCnt (m .settings) ≡ true → completes E false width offset written ≡ false
   unfolding completes
   completes-not′ width offset written h = rw (h, and-false) refl
 
-  control-write-shows : (a : Access) (written : ℕ) → registerOf m a ≡ register.Control false → hasB (m .settings) ≡ true
+  control-write-shows : (a : Access) (written : ℕ) → registerOf m a ≡ register.Pm1Cnt false → hasPm1bCnt (m .settings) ≡ true
       → answerTo m (step.Write a written) ≡ answerTo E (step.Write a written)
   unfolding answerTo awake commandLost namesNone
   control-write-shows a written r h =
       rw (r, completes-not (a .width) (offsetOf m a) written h, completes-not′ (a .width) (offsetOf m a) written h) refl
 
-  pub control-write-passes : (a : Access) (written : ℕ) → registerOf m a ≡ register.Control false → hasB (m .settings) ≡ true → Passes m g (step.Write a written)
+  pub control-write-passes : (a : Access) (written : ℕ) → registerOf m a ≡ register.Pm1Cnt false → hasPm1bCnt (m .settings) ≡ true → Passes m g (step.Write a written)
   unfolding after writeOf typAfter armedAfter bmRldAfter gblRlsAfter
   control-write-passes a written r h = go (accepted (answerTo m (step.Write a written))) refl
     where

@@ -18,6 +18,7 @@ use Rattle.bits.proofs.Digits.{digit-and, digit-le, digit-zero, digit-not, digi
 use Rattle.platform.specs.Cells.{statusCells}
 use Rattle.platform.specs.declared.settings.Settings.{Settings}
 use Rattle.machine.specs.Cells.{pwrbtnBit, slpbtnBit, rtcBit, tmrBit, hasBit, homesIn, statusIn, onesIn, covered, placed, laneAt}
+use Rattle.machine.specs.declared.Machine.{Machine}
 use Rattle.model.specs.Events.{fits, tmrRaised}
 use Rattle.model.specs.declared.Event.{Event}
 use Rattle.model.specs.declared.Event.the-variants as event
@@ -122,8 +123,8 @@ covered-small width offset = go (eqb width 1)
         lt-of-lt-of-le (shl-lt 8 (8 * laneAt offset) (lit< tt)) (pow-mono low)
     go false = lit< tt
 
-pub ones-small : (s : Settings) (b : Bool) (width offset written : ℕ) → onesIn s b width offset written < 2 ^ 16
-ones-small s b width offset written = masked-lt 16 (placed offset written) (bitAnd (statusIn s b) (covered width offset)) (masked-lt 16 (statusIn s b) (covered width offset) (covered-small width offset))
+pub ones-small : (m : Machine) (b : Bool) (width offset written : ℕ) → onesIn m b width offset written < 2 ^ 16
+ones-small m b width offset written = masked-lt 16 (placed offset written) (bitAnd (statusIn (m .settings) b) (covered width offset)) (masked-lt 16 (statusIn (m .settings) b) (covered width offset) (covered-small width offset))
 
-pub ones-at-home : (s : Settings) (b : Bool) (width offset written mask : ℕ) → bitAnd mask (statusIn s b) ≡ 0 → bitAnd mask (onesIn s b width offset written) ≡ 0
-ones-at-home s b width offset written mask e = apart-within mask (statusIn s b) (placed offset written) (covered width offset) e
+pub ones-at-home : (m : Machine) (b : Bool) (width offset written mask : ℕ) → bitAnd mask (statusIn (m .settings) b) ≡ 0 → bitAnd mask (onesIn m b width offset written) ≡ 0
+ones-at-home m b width offset written mask e = apart-within mask (statusIn (m .settings) b) (placed offset written) (covered width offset) e

@@ -31,16 +31,16 @@ module _ (s : Settings) (legal : Guaranteed s) (offset : ℕ) where
   unfolding offsetAt
   offset-is i h p o = rw (place-is i h p o) (omega arith)
 
-  pub event-a : offset < s .«pm1a_evt» .length → registerAt s (s .«pm1a_evt» .address + offset) ≡ register.Event false
+  pub event-a : offset < s .«pm1a_evt» .length → registerAt s (s .«pm1a_evt» .address + offset) ≡ register.Pm1Evt false
   event-a o = register-is 1 (lit< tt) (legal .evt-a-present) o
 
-  pub event-b : present (s .«pm1b_evt») ≡ true → offset < s .«pm1a_evt» .length → registerAt s (s .«pm1b_evt» .address + offset) ≡ register.Event true
+  pub event-b : present (s .«pm1b_evt») ≡ true → offset < s .«pm1a_evt» .length → registerAt s (s .«pm1b_evt» .address + offset) ≡ register.Pm1Evt true
   event-b p o =
       let a = legal .evt-a-length (legal .evt-a-present) in
       let b = legal .evt-b-length p in
       register-is 2 (lit< tt) p (omega arith)
 
-  pub control-a : offset < s .«pm1a_cnt» .length → registerAt s (s .«pm1a_cnt» .address + offset) ≡ register.Control false
+  pub control-a : offset < s .«pm1a_cnt» .length → registerAt s (s .«pm1a_cnt» .address + offset) ≡ register.Pm1Cnt false
   control-a o = register-is 3 (lit< tt) (legal .cnt-a-present) o
 
   pub offset-a : offset < s .«pm1a_evt» .length → offsetAt s (s .«pm1a_evt» .address + offset) ≡ offset

@@ -17,7 +17,7 @@ use Rattle.platform.proofs.Legal.{legal-guaranteed}
 use Rattle.machine.specs.SetUp.{setUpOf}
 use Rattle.machine.specs.declared.Machine.{Machine}
 use Rattle.machine.proofs.Accepted.{accepted-legal}
-use Rattle.machine.specs.Cells.{hasB}
+use Rattle.machine.specs.Cells.{hasPm1bCnt}
 use Rattle.model.specs.Step.{answerTo, after, stepOf}
 use Rattle.model.proofs.Steps.{settings-kept}
 use Rattle.model.specs.declared.Answer.{Answer}

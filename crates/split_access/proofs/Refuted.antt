@@ -22,9 +22,9 @@ use Rattle.model.specs.declared.Step.{Step}
 use Rattle.model.specs.declared.Step.the-variants as step
 use Rattle.model.specs.declared.Stepped.{Stepped}
 use Rattle.split_access.specs.Gap.{before}
-use Rattle.split_access.specs.Claims.{reads, GapStep, gap-step, Gap, ItemOn, event-item, Demand3}
+use Rattle.split_access.specs.Claims.{reads, GapStep, gap-step, Gap, ItemOn, event-item, MovesBy, Demand3By, Demand3}
 use Rattle.split_access.specs.WriteBack.{Round, RoundOn, nextBy, WritesBackFrom, WriteBack}
-use Rattle.split_access.specs.Faulty.{clearsAll, oneRegister, MixedItemOn, any-event, otherSide, MovesBy, Demand3By}
+use Rattle.split_access.specs.Faulty.{clearsAll, oneRegister, MixedItemOn, otherSide}
 use Rattle.split_access.proofs.Platform.{table, pairs, platform, machine, accepted, gives, alarmInB, pressInB, alarm-homes, press-homes, steps-compute}
 
 -- the write-back from the platform's machine
@@ -41,13 +41,6 @@ moves-from : (On : Settings → Item Step → Type 0) (first : Settings → Step
     → Demand3By On first setUpOf stepped
     → MovesBy On first stepped (machine homes)
 moves-from On first stepped homes e d = subst (MovesBy On first stepped) (gives homes e) (d table homes 0 false pairs (accepted homes e))
-
--- `Demand3By` is demand 3 at demand 3's own items and test
-demand-3-by : Demand3 setUpOf stepOf → Demand3By ItemOn before setUpOf stepOf
-demand-3-by d = d
-
-by-demand-3 : Demand3By ItemOn before setUpOf stepOf → Demand3 setUpOf stepOf
-by-demand-3 d = d
 
 -- ---- version 1
 
@@ -127,7 +120,7 @@ mixed-steps = (gap-step (event.Ticks 1), (gap-step event.Press, tt))
 
 mixed-gap-on : Every (MixedItemOn (platform pressInB)) (stepsOf mixedGap)
 unfolding steps-compute
-mixed-gap-on = (any-event refl (reads 0 2 (omega arith)) mixed-steps, tt)
+mixed-gap-on = (event-item refl (reads 0 2 (omega arith)) mixed-steps, tt)
 
 -- hold is 0 at the end, and 1 where the press is moved
 pub mixed-gap-refuted : Demand3By MixedItemOn before setUpOf stepOf → ⊥

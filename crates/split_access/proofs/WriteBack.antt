@@ -196,22 +196,22 @@ unfolding gpeClears gpeRuleChange
 gpe-read-clears-none m a b i = none-cleared (accepted (answerTo m (step.Read a))) unchanged refl
 
 -- a write to an event register clears no general bit
-gpe-write-clears-none : (m : Machine) (a : Access) (written : ℕ) (c b : Bool) (i : ℕ) → registerOf m a ≡ register.Event c → gpeClears m (step.Write a written) b i ≡ 0
+gpe-write-clears-none : (m : Machine) (a : Access) (written : ℕ) (c b : Bool) (i : ℕ) → registerOf m a ≡ register.Pm1Evt c → gpeClears m (step.Write a written) b i ≡ 0
 unfolding gpeClears gpeRuleChange gpeOnes
 gpe-write-clears-none m a written c b i r = none-cleared (accepted (answerTo m (step.Write a written))) _ (rw r refl)
 
 -- .. and of the PM1 bits none that is not both written and the block's
-write-clears-none : (m : Machine) (a : Access) (written : ℕ) (c : Bool) (i : ℕ) → registerOf m a ≡ register.Event c
+write-clears-none : (m : Machine) (a : Access) (written : ℕ) (c : Bool) (i : ℕ) → registerOf m a ≡ register.Pm1Evt c
     → (digit i (placed (offsetOf m a) written) ≡ 0) ⊎ (digit i (statusIn (m .settings) c) ≡ 0) → digit i (clears m (step.Write a written)) ≡ 0
 unfolding clears ruleChange writeChange
 write-clears-none m a written c i r h = go (accepted (answerTo m (step.Write a written))) (inStatus (offsetOf m a))
   where
-    ones : digit i (onesIn (m .settings) c (a .width) (offsetOf m a) written) ≡ 0
+    ones : digit i (onesIn m c (a .width) (offsetOf m a) written) ≡ 0
     ones =
         ⊎-elim (λ e. simp digit-and (omega (arith, e)))
         (λ e. simp digit-and (omega (arith, simp digit-and at e))) h
 
-    status : (u : Bool) → digit i (bitsIf u (onesIn (m .settings) c (a .width) (offsetOf m a) written)) ≡ 0
+    status : (u : Bool) → digit i (bitsIf u (onesIn m c (a .width) (offsetOf m a) written)) ≡ 0
     status true = ones
     status false = digit-zero i
 

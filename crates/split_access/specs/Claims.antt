@@ -55,30 +55,40 @@ pub record Gap (gap : List Step) : Type 0 where
   pub steps : Every GapStep gap
   pub unmixed : mixed gap ≡ false
 
--- an item of a list, on a platform with these settings: any step, or a split access whose block B is present
-pub data ItemOn (s : Settings) : Item Step → Type 0 where
-  step-item : (x : Step) → ItemOn s (one x)
-  control-item : {h h′ : Step} {gap : List Step} → present (s .«pm1b_cnt») ≡ true → Halves (s .«pm1a_cnt») (s .«pm1b_cnt») h h′ → Gap gap
-      → ItemOn s (control h gap h′)
-  event-item : {h h′ : Step} {gap : List Step} → present (s .«pm1b_evt») ≡ true → Halves (s .«pm1a_evt») (s .«pm1b_evt») h h′ → Gap gap
-      → ItemOn s (event h gap h′)
+-- an item of a list, on a platform with these settings: any step, or a split access whose block B is present, with such a gap
+pub data ItemWith (G : List Step → Type 0) (s : Settings) : Item Step → Type 0 where
+  step-item : (x : Step) → ItemWith G s (one x)
+  control-item : {h h′ : Step} {gap : List Step} → present (s .«pm1b_cnt») ≡ true → Halves (s .«pm1a_cnt») (s .«pm1b_cnt») h h′ → G gap
+      → ItemWith G s (control h gap h′)
+  event-item : {h h′ : Step} {gap : List Step} → present (s .«pm1b_evt») ≡ true → Halves (s .«pm1a_evt») (s .«pm1b_evt») h h′ → G gap
+      → ItemWith G s (event h gap h′)
+
+abbrev pub ItemOn : Settings → Item Step → Type 0
+ItemOn s i = ItemWith Gap s i
 
 -- "Awake is S0."
 abbrev pub InS0 : Machine → Type 0
 InS0 m = m .state ≡ 0
 
--- a machine keeps its answers and its end when the gaps' steps are moved out of the split accesses
-abbrev pub MovesFrom : (Machine → Step → Stepped) → Machine → Type 0
-MovesFrom stepped m =
+-- a machine keeps its answers and its end when the gaps' steps are moved out of the split accesses: of these items, with the steps that pass
+-- the test moved before an event access
+abbrev pub MovesBy : (Settings → Item Step → Type 0) → (Settings → Step → Bool) → (Machine → Step → Stepped) → Machine → Type 0
+MovesBy On first stepped m =
     (items : List (Item (Step × Answer))) (end : Machine)
-    → Every (ItemOn (m .settings)) (stepsOf items)
+    → Every (On (m .settings)) (stepsOf items)
     → Awake (λ k x. stepped k x .machine) InS0 m (stepsOf items)
     → Run (λ k x. stepped k x .answer) (λ k x. stepped k x .machine) m (original items) end
-    → Run (λ k x. stepped k x .answer) (λ k x. stepped k x .machine) m (moved (λ p. before (m .settings) (p .0)) items) end
+    → Run (λ k x. stepped k x .answer) (λ k x. stepped k x .machine) m (moved (λ p. first (m .settings) (p .0)) items) end
+
+abbrev pub MovesFrom : (Machine → Step → Stepped) → Machine → Type 0
+MovesFrom stepped m = MovesBy ItemOn before stepped m
 
 -- "Demand 3 is one claim about a whole list": from every machine as setting up gives it
-abbrev pub Demand3 : (List ℕ → ℕ → ℕ → Bool → List (List ℕ) → SetUp) → (Machine → Step → Stepped) → Type 0
-Demand3 settled stepped =
+abbrev pub Demand3By : (Settings → Item Step → Type 0) → (Settings → Step → Bool) → (List ℕ → ℕ → ℕ → Bool → List (List ℕ) → SetUp) → (Machine → Step → Stepped) → Type 0
+Demand3By On first settled stepped =
     (t : List ℕ) (event-homes control-homes : ℕ) (power-override : Bool) (pairs : List (List ℕ))
     → settled t event-homes control-homes power-override pairs .answer ≡ set-up.Done
-    → MovesFrom stepped (settled t event-homes control-homes power-override pairs .machine)
+    → MovesBy On first stepped (settled t event-homes control-homes power-override pairs .machine)
+
+abbrev pub Demand3 : (List ℕ → ℕ → ℕ → Bool → List (List ℕ) → SetUp) → (Machine → Step → Stepped) → Type 0
+Demand3 settled stepped = Demand3By ItemOn before settled stepped

@@ -1,22 +1,17 @@
 -- Two steps that were paid for and failed, and demand 3 changed in two ways. That each is wrong is shown in `proofs/Refuted.antt`.
 use mathlib.Core.Bool.{Bool, true, false, not, cond, _&&_}
 use mathlib.Core.List.{List}
-use mathlib.Core.Path.{_≡_}
 use Prim.Native.Nat.{ℕ}
 use lib.Bits.{bitAnd}
 use Rattle.bits.specs.Cell.{kept}
-use Rattle.runs.specs.Items.{Item, one, control, event, original, moved, stepsOf, Every, Run, Awake}
-use Rattle.platform.specs.Blocks.{present}
+use Rattle.runs.specs.Items.{Item, Every}
 use Rattle.platform.specs.Cells.{statusCells}
 use Rattle.platform.specs.declared.settings.Settings.{Settings}
-use Rattle.platform.specs.declared.rules.SetUpAnswer.the-variants as set-up
 use Rattle.machine.specs.Cells.{shown, placed, covered, inStatus}
 use Rattle.machine.specs.Fields.{withEvent}
 use Rattle.machine.specs.declared.Machine.{Machine}
-use Rattle.machine.specs.declared.SetUp.{SetUp}
 use Rattle.model.specs.Step.{registerOf, offsetOf, answerTo, accepted, after, stepOf}
 use Rattle.model.specs.declared.Access.{Access}
-use Rattle.model.specs.declared.Answer.{Answer}
 use Rattle.model.specs.declared.Answer.the-variants as answer
 use Rattle.model.specs.declared.Register.{Register}
 use Rattle.model.specs.declared.Register.the-variants as register
@@ -24,16 +19,16 @@ use Rattle.model.specs.declared.Step.{Step}
 use Rattle.model.specs.declared.Step.the-variants as step
 use Rattle.model.specs.declared.Stepped.{Stepped}
 use Rattle.split_access.specs.Gap.{before}
-use Rattle.split_access.specs.Claims.{Halves, GapStep, InS0}
+use Rattle.split_access.specs.Claims.{GapStep, ItemWith}
 
 -- ---- the steps
 
 abbrev pub isEventRegister : Register → Bool
-isEventRegister register.Smi = false
-isEventRegister (register.Event b) = true
-isEventRegister (register.Control b) = false
-isEventRegister register.Pm2 = false
-isEventRegister register.Timer = false
+isEventRegister register.SmiCmd = false
+isEventRegister (register.Pm1Evt b) = true
+isEventRegister (register.Pm1Cnt b) = false
+isEventRegister register.Pm2Cnt = false
+isEventRegister register.PmTmr = false
 isEventRegister (register.Gpe b) = false
 isEventRegister register.Nowhere = false
 
@@ -77,24 +72,5 @@ abbrev pub otherSide : Settings → Step → Bool
 otherSide s x = not (before s x)
 
 -- an item as in demand 3, with "no gap holds both a press or release and ticks" left out
-pub data MixedItemOn (s : Settings) : Item Step → Type 0 where
-  any-step : (x : Step) → MixedItemOn s (one x)
-  any-control : {h h′ : Step} {gap : List Step} → present (s .«pm1b_cnt») ≡ true → Halves (s .«pm1a_cnt») (s .«pm1b_cnt») h h′ → Every GapStep gap
-      → MixedItemOn s (control h gap h′)
-  any-event : {h h′ : Step} {gap : List Step} → present (s .«pm1b_evt») ≡ true → Halves (s .«pm1a_evt») (s .«pm1b_evt») h h′ → Every GapStep gap
-      → MixedItemOn s (event h gap h′)
-
--- demand 3, of these items, and with the steps that pass this test moved before an event access: `Demand3` is this of `ItemOn` and `before`
-abbrev pub MovesBy : (Settings → Item Step → Type 0) → (Settings → Step → Bool) → (Machine → Step → Stepped) → Machine → Type 0
-MovesBy On first stepped m =
-    (items : List (Item (Step × Answer))) (end : Machine)
-    → Every (On (m .settings)) (stepsOf items)
-    → Awake (λ k x. stepped k x .machine) InS0 m (stepsOf items)
-    → Run (λ k x. stepped k x .answer) (λ k x. stepped k x .machine) m (original items) end
-    → Run (λ k x. stepped k x .answer) (λ k x. stepped k x .machine) m (moved (λ p. first (m .settings) (p .0)) items) end
-
-abbrev pub Demand3By : (Settings → Item Step → Type 0) → (Settings → Step → Bool) → (List ℕ → ℕ → ℕ → Bool → List (List ℕ) → SetUp) → (Machine → Step → Stepped) → Type 0
-Demand3By On first settled stepped =
-    (t : List ℕ) (event-homes control-homes : ℕ) (power-override : Bool) (pairs : List (List ℕ))
-    → settled t event-homes control-homes power-override pairs .answer ≡ set-up.Done
-    → MovesBy On first stepped (settled t event-homes control-homes power-override pairs .machine)
+abbrev pub MixedItemOn : Settings → Item Step → Type 0
+MixedItemOn s i = ItemWith (Every GapStep) s i

@@ -1,0 +1,12 @@
+-- `machine::lines::awake` meets its contract: what its calls and tests say, put together, is the definition. Assumes nothing.
+use mathlib.Core.Path.{refl}
+use Rattle.machine.specs.Lines.{awake}
+use Rattle.machine.proofs.lines.awake.Statement.{statement}
+use Rattle.machine.proofs.lines.awake.Tie as tie
+
+returns : tie.Need-returns
+unfolding awake
+returns c = refl
+
+pub awake-spec : {M : Type 1} → statement M
+awake-spec = tie.close (tie.spec returns)

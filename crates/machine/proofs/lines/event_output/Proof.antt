@@ -1,0 +1,16 @@
+-- `machine::lines::event_output` meets its contract: what its calls and tests say, put together, is the definition. Assumes nothing.
+use borrow.Author.Needs.{needs}
+use Rattle.machine.proofs.lines.event_output.Statement.{statement}
+use Rattle.machine.proofs.lines.event_output.Tie as tie
+
+pm1-event-requires : tie.Need-pm1-event-requires
+pm1-event-requires c κs = search needs
+
+gpe-event-requires : tie.Need-gpe-event-requires
+gpe-event-requires c κs = search needs
+
+returns : tie.Need-returns
+returns c = simp (c .gpe-event .ensures, c .before .pm1-event .ensures)
+
+pub event-output-spec : {M : Type 1} → statement M
+event-output-spec = tie.close (tie.spec pm1-event-requires gpe-event-requires returns)

@@ -1,0 +1,18 @@
+-- `machine::lines::smi` meets its contract: what its calls and tests say, put together, is the definition. Assumes nothing.
+use Rattle.machine.specs.Lines.{smiOf}
+use borrow.Author.Needs.{needs}
+use Rattle.machine.proofs.lines.smi.Statement.{statement}
+use Rattle.machine.proofs.lines.smi.Tie as tie
+
+awake-requires : tie.Need-awake-requires
+awake-requires c κs = search needs
+
+event-output-requires : tie.Need-event-output-requires
+event-output-requires c κs = search needs
+
+returns : tie.Need-returns
+unfolding smiOf
+returns c = simp (c .before .before .event-output .ensures, c .before .before .before .before .awake .ensures)
+
+pub smi-spec : {M : Type 1} → statement M
+smi-spec = tie.close (tie.spec awake-requires event-output-requires returns)

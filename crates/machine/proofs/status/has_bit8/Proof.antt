@@ -1,0 +1,12 @@
+-- `machine::status::has_bit8` meets its contract: what its calls and tests say, put together, is the definition. Assumes nothing.
+use mathlib.Core.Path.{refl}
+use Rattle.machine.specs.Cells.{hasBit}
+use Rattle.machine.proofs.status.has_bit8.Statement.{statement}
+use Rattle.machine.proofs.status.has_bit8.Tie as tie
+
+returns : tie.Need-returns
+unfolding hasBit
+returns c = refl
+
+pub has-bit8-spec : {M : Type 1} → statement M
+has-bit8-spec = tie.close (tie.spec returns)

@@ -1,0 +1,64 @@
+// The SCI and SMI lines.
+use crate::GPE_BYTES;
+use crate::Machine;
+use crate::status::has_bit;
+use crate::status::has_bit8;
+ghost use mathlib.Core.Path.{_≡_};
+ghost use Rattle.machine.specs.Lines.{awake, anyEnabled, gpeEvent, pm1Event, eventOutput, sciOf, smiOf};
+
+// S0.
+pub fn awake(m: Machine) -> bool
+    ensures { λ r. ⌜ r ≡ awake m ⌝ }
+{
+    m.state == 0
+}
+
+// Whether some general status bit is set together with its enable.
+fn any_enabled(sts: [u8; GPE_BYTES], en: [u8; GPE_BYTES]) -> bool
+    ensures { λ r. ⌜ r ≡ anyEnabled sts en ⌝ }
+{
+    let mut i = 0;
+    while i < GPE_BYTES {
+        if has_bit8(sts[i], en[i]) {
+            return true;
+        }
+        i += 1;
+    }
+    false
+}
+
+pub fn gpe_event(m: Machine) -> bool
+    ensures { λ r. ⌜ r ≡ gpeEvent m ⌝ }
+{
+    let sts0 = m.gpe0_sts;
+    let en0 = m.gpe0_en;
+    let sts1 = m.gpe1_sts;
+    let en1 = m.gpe1_en;
+    any_enabled(sts0, en0) | any_enabled(sts1, en1)
+}
+
+pub fn pm1_event(m: Machine) -> bool
+    ensures { λ r. ⌜ r ≡ pm1Event m ⌝ }
+{
+    has_bit(m.pm1_sts & m.pm1_en, 0x0721)
+}
+
+pub fn event_output(m: Machine) -> bool
+    ensures { λ r. ⌜ r ≡ eventOutput m ⌝ }
+{
+    pm1_event(m) | gpe_event(m)
+}
+
+// SCI: in S0, SCI_EN and event.
+pub fn sci(m: Machine) -> bool
+    ensures { λ r. ⌜ r ≡ sciOf m ⌝ }
+{
+    awake(m) & (m.sci_en & event_output(m))
+}
+
+// SMI: in S0, an event without SCI_EN, a command waiting or the release flag.
+pub fn smi(m: Machine) -> bool
+    ensures { λ r. ⌜ r ≡ smiOf m ⌝ }
+{
+    awake(m) & ((!m.sci_en & event_output(m)) | m.command_waits | m.gbl_rls)
+}

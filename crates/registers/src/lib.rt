@@ -1,0 +1,295 @@
+// The cells: where each lives, how a read shows them and what a write does to them.
+use bits::pick8;
+use bits::pick16;
+use bits::pick32;
+use machine::GPE_BYTES;
+use machine::Machine;
+use machine::has_bit;
+use platform::Settings;
+ghost use mathlib.Core.Path.{_≡_};
+ghost use Prim.Native.Nat.{_-_};
+ghost use lib.Bits.{bitAnd};
+ghost use lib.ListN.{getD, set};
+ghost use Rattle.machine.specs.Cells.{
+  homesIn,
+  statusIn,
+  enableIn,
+  shown,
+  covered,
+  placed,
+  inStatus,
+  eventRegister,
+  onesIn,
+  statusAfter,
+  enableAfter,
+  controlIn,
+  hasPm1bCnt,
+  slpTyp,
+  controlRegister,
+  coversLow,
+  coversHigh,
+  writtenBit,
+  gpeHalf,
+  gpeSts,
+  gpeEn,
+  inGpeStatus,
+  gpeByte,
+  gpeStsAfter,
+  gpeEnAfter,
+};
+
+// The bits that live in the block, B or A.
+fn homes_in(homes: u16, b: bool) -> u16
+    ensures { λ r. ⌜ r ≡ homesIn homes b ⌝ }
+{
+    pick16(b, homes, !homes)
+}
+
+// The fitted cells that the block shows.
+pub fn status_in(s: Settings, b: bool) -> u16
+    ensures { λ r. ⌜ r ≡ statusIn s b ⌝ }
+{
+    platform::status_cells(s) & homes_in(s.event_homes, b)
+}
+
+pub fn enable_in(s: Settings, b: bool) -> u16
+    ensures { λ r. ⌜ r ≡ enableIn s b ⌝ }
+{
+    platform::enable_cells(s) & homes_in(s.event_homes, b)
+}
+
+// What an access of the width shows of the register.
+pub fn shown(width: u32, offset: u64, register: u32) -> u32
+    ensures { λ r. ⌜ r ≡ shown width offset register ⌝ }
+{
+    let byte = (register >> (8 * (offset % 2))) % 256;
+    pick32(width == 1, byte, register)
+}
+
+// The bits of the byte at the offset.
+fn byte_bits(offset: u64) -> u16
+    ensures { λ r. ⌜ r ≡ placed offset 255 ⌝ }
+{
+    if offset % 2 == 1 { 0xff00 } else { 0x00ff }
+}
+
+// The register's bits that the access covers.
+fn covered(width: u32, offset: u64) -> u16
+    ensures { λ r. ⌜ r ≡ covered width offset ⌝ }
+{
+    pick16(width == 1, byte_bits(offset), 0xffff)
+}
+
+// What is written, at its place in the register.
+pub fn placed(offset: u64, written: u32) -> u64
+    ensures { λ r. ⌜ r ≡ placed offset written ⌝ }
+{
+    if offset % 2 == 1 {
+        (written as u64) * 256
+    } else {
+        written as u64
+    }
+}
+
+// The bits written that a mask lets through.
+fn placed_in(offset: u64, written: u32, mask: u16) -> u16
+    ensures { λ r. ⌜ r ≡ bitAnd (placed offset written) mask ⌝ }
+{
+    (placed(offset, written) & (mask as u64)) as u16
+}
+
+// The status half comes first, the enable half second.
+fn in_status(offset: u64) -> bool
+    ensures { λ r. ⌜ r ≡ inStatus offset ⌝ }
+{
+    offset < 2
+}
+
+pub fn event_register(m: Machine, b: bool, offset: u64) -> u16
+    ensures { λ r. ⌜ r ≡ eventRegister m b offset ⌝ }
+{
+    let s = m.settings;
+    pick16(
+        in_status(offset),
+        m.pm1_sts & status_in(s, b),
+        m.pm1_en & enable_in(s, b),
+    )
+}
+
+// The ones written to fitted status bits that live in the block.
+fn ones_in(m: Machine, b: bool, width: u32, offset: u64, written: u32) -> u16
+    ensures { λ r. ⌜ r ≡ onesIn m b width offset written ⌝ }
+{
+    let s = m.settings;
+    placed_in(offset, written, status_in(s, b) & covered(width, offset))
+}
+
+// Writing one to a status bit clears it; writing zero keeps it.
+pub fn status_after(m: Machine, b: bool, width: u32, offset: u64, written: u32) -> u16
+    ensures { λ r. ⌜ r ≡ statusAfter m b width offset written ⌝ }
+{
+    let ones = ones_in(m, b, width, offset, written);
+    pick16(in_status(offset), m.pm1_sts & !ones, m.pm1_sts)
+}
+
+// An enable bit takes the value written.
+pub fn enable_after(m: Machine, b: bool, width: u32, offset: u64, written: u32) -> u16
+    ensures { λ r. ⌜ r ≡ enableAfter m b width offset written ⌝ }
+{
+    let s = m.settings;
+    let mask = enable_in(s, b) & covered(width, offset);
+    let taken = (m.pm1_en & !mask) | placed_in(offset, written, mask);
+    pick16(in_status(offset), m.pm1_en, taken)
+}
+
+// A control bit, 0 SCI_EN, 1 BM_RLD or 2 GBL_RLS, lives in the block.
+pub fn control_in(s: Settings, b: bool, bit: u8) -> bool
+    ensures { λ r. ⌜ r ≡ controlIn s b bit ⌝ }
+{
+    let homes = homes_in(s.control_homes, b);
+    if bit < 16 {
+        has_bit(homes, 1 << bit)
+    } else {
+        false
+    }
+}
+
+// PM1b control is present.
+pub fn has_pm1b_cnt(s: Settings) -> bool
+    ensures { λ r. ⌜ r ≡ hasPm1bCnt s ⌝ }
+{
+    let cnt_b = s.pm1b_cnt;
+    platform::is_present(cnt_b)
+}
+
+fn slp_typ(m: Machine, b: bool) -> u8
+    ensures { λ r. ⌜ r ≡ slpTyp m b ⌝ }
+{
+    pick8(b, m.slp_typ_b, m.slp_typ_a)
+}
+
+// SCI_EN and BM_RLD in their homes, SLP_TYP in both; GBL_RLS and SLP_EN read zero.
+pub fn control_register(m: Machine, b: bool) -> u32
+    ensures { λ r. ⌜ r ≡ controlRegister m b ⌝ }
+{
+    let s = m.settings;
+    let sci_en = pick32(control_in(s, b, 0) & m.sci_en, 1, 0);
+    let bm_rld = pick32(control_in(s, b, 1) & m.bm_rld, 2, 0);
+    let typ = slp_typ(m, b) as u32;
+    sci_en | bm_rld | (typ * 1024)
+}
+
+// Whether the access covers the register's low byte, or its high byte.
+pub fn covers_low(width: u32, offset: u64) -> bool
+    ensures { λ r. ⌜ r ≡ coversLow width offset ⌝ }
+{
+    (width == 2) | (offset % 2 == 0)
+}
+
+pub fn covers_high(width: u32, offset: u64) -> bool
+    ensures { λ r. ⌜ r ≡ coversHigh width offset ⌝ }
+{
+    (width == 2) | (offset % 2 == 1)
+}
+
+// Bit n of what is written at the offset.
+pub fn written_bit(offset: u64, written: u32, n: u8) -> bool
+    ensures { λ r. ⌜ r ≡ writtenBit offset written n ⌝ }
+{
+    let value = placed(offset, written);
+    if n < 64 { (value >> n) % 2 == 1 } else { false }
+}
+
+// The status bytes of a GPE block, and as many enable bytes after them.
+pub fn gpe_half(s: Settings, b: bool) -> u8
+    ensures { λ r. ⌜ r ≡ gpeHalf s b ⌝ }
+{
+    let gpe0 = s.gpe0;
+    let gpe1 = s.gpe1;
+    pick8(b, gpe1.length, gpe0.length) / 2
+}
+
+fn in_gpe_status(s: Settings, b: bool, offset: u64) -> bool
+    ensures { λ r. ⌜ r ≡ inGpeStatus s b offset ⌝ }
+{
+    offset < gpe_half(s, b) as u64
+}
+
+// How far the offset lies past the status bytes.
+fn past_status(s: Settings, b: bool, offset: u64) -> u64
+    ensures { λ r. ⌜ r ≡ offset - gpeHalf s b ⌝ }
+{
+    let half = gpe_half(s, b) as u64;
+    if half <= offset { offset - half } else { 0 }
+}
+
+pub fn gpe_sts(m: Machine, b: bool) -> [u8; GPE_BYTES]
+    ensures { λ r. ⌜ r ≡ gpeSts m b ⌝ }
+{
+    if b { m.gpe1_sts } else { m.gpe0_sts }
+}
+
+pub fn gpe_en(m: Machine, b: bool) -> [u8; GPE_BYTES]
+    ensures { λ r. ⌜ r ≡ gpeEn m b ⌝ }
+{
+    if b { m.gpe1_en } else { m.gpe0_en }
+}
+
+// The byte at a place; past the last there are none, and reads give zero.
+fn byte_at(bytes: [u8; GPE_BYTES], place: u64) -> u8
+    ensures { λ r. ⌜ r ≡ getD bytes place 0 ⌝ }
+{
+    let i = place as usize;
+    if i < GPE_BYTES { bytes[i] } else { 0 }
+}
+
+// The bytes with another at a place; past the last nothing changes.
+fn with_byte(mut bytes: [u8; GPE_BYTES], place: u64, byte: u8) -> [u8; GPE_BYTES]
+    ensures { λ r. ⌜ r ≡ set bytes place byte ⌝ }
+{
+    let i = place as usize;
+    if i < GPE_BYTES {
+        bytes[i] = byte;
+        bytes
+    } else {
+        bytes
+    }
+}
+
+pub fn gpe_byte(m: Machine, b: bool, offset: u64) -> u8
+    ensures { λ r. ⌜ r ≡ gpeByte m b offset ⌝ }
+{
+    let s = m.settings;
+    let sts = byte_at(gpe_sts(m, b), offset);
+    let en = byte_at(gpe_en(m, b), past_status(s, b, offset));
+    pick8(in_gpe_status(s, b, offset), sts, en)
+}
+
+// The status bytes, and the enable bytes, after a write to a byte of the block.
+pub fn gpe_sts_after(m: Machine, b: bool, offset: u64, written: u8) -> [u8; GPE_BYTES]
+    ensures { λ r. ⌜ r ≡ gpeStsAfter m b offset written ⌝ }
+{
+    let s = m.settings;
+    let sts = gpe_sts(m, b);
+    if in_gpe_status(s, b, offset) {
+        with_byte(
+            sts,
+            offset,
+            bits::clear8(byte_at(sts, offset), written, 255),
+        )
+    } else {
+        sts
+    }
+}
+
+pub fn gpe_en_after(m: Machine, b: bool, offset: u64, written: u8) -> [u8; GPE_BYTES]
+    ensures { λ r. ⌜ r ≡ gpeEnAfter m b offset written ⌝ }
+{
+    let s = m.settings;
+    let en = gpe_en(m, b);
+    if in_gpe_status(s, b, offset) {
+        en
+    } else {
+        with_byte(en, past_status(s, b, offset), written)
+    }
+}
