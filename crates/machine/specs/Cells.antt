@@ -75,25 +75,34 @@ placed offset written = lane (laneAt offset) written
 unfoldable pub inStatus : ℕ → Bool
 inStatus offset = ltb offset 2
 
--- "Elsewhere, and for unfitted or reserved bits, reads give zero"
+-- "Elsewhere, and for unfitted or reserved bits, reads give zero": what the block's halves show
+abbrev pub statusRegister : Machine → Bool → ℕ
+statusRegister m b = bitAnd (m .«pm1_sts») (statusIn (m .settings) b)
+
+abbrev pub enableRegister : Machine → Bool → ℕ
+enableRegister m b = bitAnd (m .«pm1_en») (enableIn (m .settings) b)
+
 abbrev pub eventRegister : Machine → Bool → ℕ → ℕ
-eventRegister m b offset =
-    cond (inStatus offset) (bitAnd (m .«pm1_sts») (statusIn (m .settings) b)) (bitAnd (m .«pm1_en») (enableIn (m .settings) b))
+eventRegister m b offset = cond (inStatus offset) (statusRegister m b) (enableRegister m b)
 
 -- the ones written to fitted status bits that live in the block
 abbrev pub onesIn : Machine → Bool → ℕ → ℕ → ℕ → ℕ
 onesIn m b width offset written = bitAnd (placed offset written) (bitAnd (statusIn (m .settings) b) (covered width offset))
 
 -- "Writing one to a status bit clears it; writing zero keeps it."
+abbrev pub statusCleared : Machine → Bool → ℕ → ℕ → ℕ → ℕ
+statusCleared m b width offset written = kept 16 (m .«pm1_sts») (onesIn m b width offset written)
+
 unfoldable pub statusAfter : Machine → Bool → ℕ → ℕ → ℕ → ℕ
-statusAfter m b width offset written =
-    cond (inStatus offset) (kept 16 (m .«pm1_sts») (onesIn m b width offset written)) (m .«pm1_sts»)
+statusAfter m b width offset written = cond (inStatus offset) (statusCleared m b width offset written) (m .«pm1_sts»)
 
 -- "An enable bit takes the value written."
+abbrev pub enableTaken : Machine → Bool → ℕ → ℕ → ℕ → ℕ
+enableTaken m b width offset written =
+    takenBy 16 (m .«pm1_en») (placed offset written) (bitAnd (enableIn (m .settings) b) (covered width offset))
+
 unfoldable pub enableAfter : Machine → Bool → ℕ → ℕ → ℕ → ℕ
-enableAfter m b width offset written =
-    cond (inStatus offset) (m .«pm1_en»)
-    (takenBy 16 (m .«pm1_en») (placed offset written) (bitAnd (enableIn (m .settings) b) (covered width offset)))
+enableAfter m b width offset written = cond (inStatus offset) (m .«pm1_en») (enableTaken m b width offset written)
 
 -- ---- the PM1 control registers
 
@@ -142,20 +151,26 @@ gpeEn m b = cond b (m .«gpe1_en») (m .«gpe0_en»)
 unfoldable pub inGpeStatus : Settings → Bool → ℕ → Bool
 inGpeStatus s b offset = ltb offset (gpeHalf s b)
 
+-- the block's byte at an offset of its status half, and of its enable half
+abbrev pub gpeStsByte : Machine → Bool → ℕ → ℕ
+gpeStsByte m b offset = getD (gpeSts m b) offset 0
+
+abbrev pub gpeEnByte : Machine → Bool → ℕ → ℕ
+gpeEnByte m b offset = getD (gpeEn m b) (offset - gpeHalf (m .settings) b) 0
+
 abbrev pub gpeByte : Machine → Bool → ℕ → ℕ
-gpeByte m b offset =
-    cond (inGpeStatus (m .settings) b offset) (getD (gpeSts m b) offset 0) (getD (gpeEn m b) (offset - gpeHalf (m .settings) b) 0)
+gpeByte m b offset = cond (inGpeStatus (m .settings) b offset) (gpeStsByte m b offset) (gpeEnByte m b offset)
 
--- ".. the same rules": a status byte after a write to a byte of the block
+-- ".. the same rules": the ones of the byte written are cleared
+abbrev pub gpeStsCleared : Machine → Bool → ℕ → ℕ → List ℕ
+gpeStsCleared m b offset written = set (gpeSts m b) offset (clearedBy 8 (gpeStsByte m b offset) written 255)
+
 unfoldable pub gpeStsAfter : Machine → Bool → ℕ → ℕ → List ℕ
-gpeStsAfter m b offset written =
-    cond (inGpeStatus (m .settings) b offset)
-    (set (gpeSts m b) offset (clearedBy 8 (getD (gpeSts m b) offset 0) written 255))
-    (gpeSts m b)
+gpeStsAfter m b offset written = cond (inGpeStatus (m .settings) b offset) (gpeStsCleared m b offset written) (gpeSts m b)
 
--- an enable byte takes the byte written
+-- .. and an enable byte takes the byte written
+abbrev pub gpeEnTaken : Machine → Bool → ℕ → ℕ → List ℕ
+gpeEnTaken m b offset written = set (gpeEn m b) (offset - gpeHalf (m .settings) b) (written % 2 ^ 8)
+
 unfoldable pub gpeEnAfter : Machine → Bool → ℕ → ℕ → List ℕ
-gpeEnAfter m b offset written =
-    cond (inGpeStatus (m .settings) b offset)
-    (gpeEn m b)
-    (set (gpeEn m b) (offset - gpeHalf (m .settings) b) written)
+gpeEnAfter m b offset written = cond (inGpeStatus (m .settings) b offset) (gpeEn m b) (gpeEnTaken m b offset written)

@@ -5,12 +5,13 @@ use mathlib.Core.Bool.{Bool, true, false, not, cond, _&&_}
 use mathlib.Core.List.{List, [], _∷_}
 use mathlib.Core.Path.{_≡_, refl, _∙_}
 use Prim.Native.Nat.{ℕ, zero, suc, _+_, _*_, _-_, _/_, _%_, _^_, _≤_, _<_}
+use native.Mathlib.Nat.{mod-lt}
 use native.Mathlib.Omega.{arith}
 use borrow.Author.Tests.{eqb-true, ltb-true, ltb-false, leb-false, lt-leb, not-true}
 use lib.Bits.{or-lt}
 use lib.Dec.{eqb, ltb, leb}
 use lib.ListN.{length, getD, drop, set, length-set}
-use lib.Pow.{pow-lt}
+use lib.Pow.{pow-lt, pow-pos}
 use lib.Seq.{getD-drop, getD-set-other}
 use Rattle.lists.specs.Any.{any}
 use Rattle.lists.proofs.Tests.{or-left, or-right, and-left, and-right}
@@ -117,9 +118,9 @@ module _ (m : Machine) (b : Bool) (offset written : ℕ) where
       bytes-if _ (ltb offset (gpeHalf (m .settings) b)) _ _
       (λ e. bytes-set _ (gpeSts m b) offset _ (ltb-true offset _ e) (kept-lt 8 (getD (gpeSts m b) offset 0) _) p) (λ e. p)
 
-  pub enable-written : (size : ℕ) → gpeHalf (m .settings) b ≡ size / 2 → size % 2 ≡ 0 → offset < size → written < 256
+  pub enable-written : (size : ℕ) → gpeHalf (m .settings) b ≡ size / 2 → size % 2 ≡ 0 → offset < size
       → Bytes (gpeHalf (m .settings) b) (gpeEn m b) → Bytes (gpeHalf (m .settings) b) (gpeEnAfter m b offset written)
   unfolding gpeEnAfter inGpeStatus
-  enable-written size half even h w p =
+  enable-written size half even h p =
       bytes-if _ (ltb offset (gpeHalf (m .settings) b)) _ _ (λ e. p)
-      (λ e. bytes-set _ (gpeEn m b) (offset - gpeHalf (m .settings) b) written (omega (arith, ltb-false offset _ e)) w p)
+      (λ e. bytes-set _ (gpeEn m b) (offset - gpeHalf (m .settings) b) (written % 2 ^ 8) (omega (arith, ltb-false offset _ e)) (mod-lt written (pow-pos 8)) p)

@@ -4,13 +4,14 @@
 use mathlib.Core.Bool.{Bool, true, false, not, cond, _&&_, _||_, or-true, false≢true}
 use mathlib.Core.List.{List, [], _∷_}
 use mathlib.Core.Path.{_≡_, refl, sym, _∙_}
-use Prim.Native.Nat.{ℕ, zero, suc, _+_, _%_, _<_}
-use native.Mathlib.Nat.{le-of-suc-le-suc, not-suc-le-zero, add-zero}
+use Prim.Native.Nat.{ℕ, zero, suc, _+_, _%_, _^_, _<_}
+use native.Mathlib.Nat.{le-of-suc-le-suc, not-suc-le-zero, add-zero, mod-lt}
 use native.Mathlib.Omega.{arith}
 use borrow.Author.Tests.{eqb-true, ltb-true, not-false}
 use lib.Bits.{bitAnd}
 use lib.Dec.{eqb, ltb, lit<}
 use lib.ListN.{length, getD, drop}
+use lib.Pow.{pow-pos}
 use lib.Seq.{getD-drop}
 use Rattle.lists.specs.Any.{any, firstAt}
 use Rattle.lists.proofs.Tests.{or-left, and-left, and-right}
@@ -31,7 +32,7 @@ use Rattle.machine.specs.Fields.{withEvent, withControl, withCommand, withButto
 use Rattle.machine.specs.Lines.{awake}
 use Rattle.machine.specs.Sleep.{isSleeping, woken, wokenIf, pending, completed, restarted}
 use Rattle.machine.specs.declared.Machine.{Machine}
-use Rattle.model.specs.Bus.{dataTooWide, leadsNowhere, allowed, completes, namedState, typAfter, armedAfter, controlled, controlWritten, gpeWritten, writeOf}
+use Rattle.model.specs.Bus.{leadsNowhere, completes, namedState, typAfter, armedAfter, controlled, controlWritten, gpeWritten, writeOf}
 use Rattle.model.specs.Events.{fits, raised, inS5, pressOf, releaseOf, signalOf, pcieWakeOf, inGpe0, inGpe1, generalRaised, generalEnabled, generalOf, clockOf, tmrRaised, timed, ticksOf, eventOf}
 use Rattle.model.specs.Firmware.{isAcpiEnable, enablesAfter, sciEnAfter}
 use Rattle.model.specs.Legal.{absentPair, stateAllowed}
@@ -142,8 +143,8 @@ pub record Keeps (P : Machine → Type 0) : Type 0 where
       → (within (enableCells (m .settings)) (m .«pm1_en») ≡ true → within (enableCells (m .settings)) cells ≡ true)
       → P m → P (withEvent m (m .«pm1_sts») cells)
   -- a general event byte is written, and a general event sets its bit
-  pub bytes0 : (m : Machine) (offset written : ℕ) → offset < m .settings .gpe0 .length → written < 256 → P m → P (gpeWritten m false offset written)
-  pub bytes1 : (m : Machine) (offset written : ℕ) → offset < m .settings .gpe1 .length → written < 256 → P m → P (gpeWritten m true offset written)
+  pub bytes0 : (m : Machine) (offset written : ℕ) → offset < m .settings .gpe0 .length → P m → P (gpeWritten m false offset written)
+  pub bytes1 : (m : Machine) (offset written : ℕ) → offset < m .settings .gpe1 .length → P m → P (gpeWritten m true offset written)
   pub general : (m : Machine) (k : ℕ) → (inGpe0 (m .settings) k || inGpe1 (m .settings) k) ≡ true → P m → P (generalRaised m k)
   -- a command is latched, and taken
   pub commands : (m : Machine) (written : ℕ) → present (smiBlock (m .settings)) ≡ true → written < 256 → P m → P (withCommand m true written)
@@ -172,11 +173,6 @@ pub record Keeps (P : Machine → Type 0) : Type 0 where
 pick : (P : Machine → Type 0) (t : Bool) (x y : Machine) → (t ≡ true → P x) → (t ≡ false → P y) → P (cond t x y)
 pick P true x y p q = p refl
 pick P false x y p q = q refl
-
--- a byte written
-byte-below : (width written : ℕ) → eqb width 1 ≡ true → dataTooWide width written ≡ false → written < 256
-unfolding dataTooWide
-byte-below width written w e = ltb-true written 256 (not-false (ltb written 256) (rw w at e))
 
 -- control writes: what they latch, and that without B control they do not arm
 typ-below : (t : Bool) (x old : ℕ) → old < 8 → cond t (x % 8) old < 8
@@ -318,17 +314,16 @@ module _ (P : Machine → Type 0) (keeps : Keeps P) where
         (λ e. woken-kept (pending x state) (enter x state) (keeps .sleeps x state up (named-allowed (m .settings) _ _ _) (controlled-kept b r)))
         (λ e. controlled-kept b r)
 
-    write-kept : (r : Register) → Reached (m .settings) r offset → dataTooWide width written ≡ false → allowed r width offset ≡ true
-        → P (writeOf m r width offset written)
-    unfolding writeOf leadsNowhere allowed
-    write-kept register.SmiCmd r d a = keeps .commands m written (r refl .0) (byte-below width written a d) p
-    write-kept (register.Pm1Evt b) r d a = event-write-kept b
-    write-kept (register.Pm1Cnt b) r d a = control-kept b r
-    write-kept register.Pm2Cnt r d a = keeps .arbitrates m (eqb (written % 2) 1) (r refl .0) p
-    write-kept register.PmTmr r d a = p
-    write-kept (register.Gpe false) r d a = keeps .bytes0 m offset written (r refl .1) (byte-below width written a d) p
-    write-kept (register.Gpe true) r d a = keeps .bytes1 m offset written (r refl .1) (byte-below width written a d) p
-    write-kept register.Nowhere r d a = p
+    write-kept : (r : Register) → Reached (m .settings) r offset → P (writeOf m r width offset written)
+    unfolding writeOf leadsNowhere
+    write-kept register.SmiCmd r = keeps .commands m (written % 2 ^ 8) (r refl .0) (mod-lt written (pow-pos 8)) p
+    write-kept (register.Pm1Evt b) r = event-write-kept b
+    write-kept (register.Pm1Cnt b) r = control-kept b r
+    write-kept register.Pm2Cnt r = keeps .arbitrates m (eqb (written % 2) 1) (r refl .0) p
+    write-kept register.PmTmr r = p
+    write-kept (register.Gpe false) r = keeps .bytes0 m offset written (r refl .1) p
+    write-kept (register.Gpe true) r = keeps .bytes1 m offset written (r refl .1) p
+    write-kept register.Nowhere r = p
 
   -- ---- every step
 
@@ -338,7 +333,6 @@ module _ (P : Machine → Type 0) (keeps : Keeps P) where
   done-kept m (step.Write a written) e p =
       let row = passes m (step.Write a written) e in
       write-kept m (a .width) (offsetOf m a) written (not-false (awake m) (or-left _ _ (row 20))) p (registerOf m a) (reached (m .settings) (a .port))
-      (or-left _ _ (row 22)) (not-false _ (or-left _ _ (row 24)))
   done-kept m (step.Event x) e p = event-kept m x e p
   done-kept m step.Take e p =
       keeps .takes (withEvent m (m .«pm1_sts») (enablesAfter m)) (sciEnAfter m) (not-false _ (or-left _ _ (passes m step.Take e 31)))

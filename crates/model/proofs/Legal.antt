@@ -66,8 +66,8 @@ pm1-keeps =
       raises = λ m bits w p. (or-within (statusCells (m .settings)) (m .«pm1_sts») bits (p .0) w, p .1);
       clears = λ m bits p. (part-within (statusCells (m .settings)) (m .«pm1_sts») _ (p .0), p .1);
       enables = λ m cells w p. (p .0, w (p .1));
-      bytes0 = λ m offset written o w p. p;
-      bytes1 = λ m offset written o w p. p;
+      bytes0 = λ m offset written o p. p;
+      bytes1 = λ m offset written o p. p;
       general = λ m k h p. p;
       commands = λ m written s w p. p;
       takes = λ m sci-en w p. p;
@@ -104,8 +104,8 @@ sleep-keeps =
       raises = λ m bits w p. p;
       clears = λ m bits p. p;
       enables = λ m cells w p. p;
-      bytes0 = λ m offset written o w p. p;
-      bytes1 = λ m offset written o w p. p;
+      bytes0 = λ m offset written o p. p;
+      bytes1 = λ m offset written o p. p;
       general = λ m k h p. p;
       commands = λ m written s w p. p;
       takes = λ m sci-en w p. p;
@@ -179,8 +179,8 @@ button-keeps =
       raises = λ m bits w p. p;
       clears = λ m bits p. p;
       enables = λ m cells w p. p;
-      bytes0 = λ m offset written o w p. p;
-      bytes1 = λ m offset written o w p. p;
+      bytes0 = λ m offset written o p. p;
+      bytes1 = λ m offset written o p. p;
       general = λ m k h p. p;
       commands = λ m written s w p. p;
       takes = λ m sci-en w p. p;
@@ -221,8 +221,8 @@ counter-keeps =
       raises = λ m bits w p. p;
       clears = λ m bits p. p;
       enables = λ m cells w p. p;
-      bytes0 = λ m offset written o w p. p;
-      bytes1 = λ m offset written o w p. p;
+      bytes0 = λ m offset written o p. p;
+      bytes1 = λ m offset written o p. p;
       general = λ m k h p. p;
       commands = λ m written s w p. p;
       takes = λ m sci-en w p. p;
@@ -260,8 +260,8 @@ commands-keep =
       raises = λ m bits w p. p;
       clears = λ m bits p. p;
       enables = λ m cells w p. p;
-      bytes0 = λ m offset written o w p. p;
-      bytes1 = λ m offset written o w p. p;
+      bytes0 = λ m offset written o p. p;
+      bytes1 = λ m offset written o p. p;
       general = λ m k h p. p;
       commands = λ m written s w p. (rw (not-true (eqb (m .settings .«smi_cmd») 0) s) refl, rw (lt-ltb written 256 w) refl);
       takes = λ m sci-en w p. (rw (waits-smi m w (p .0)) refl, refl);
@@ -301,8 +301,8 @@ control-keeps =
       raises = λ m bits w p. p;
       clears = λ m bits p. p;
       enables = λ m cells w p. p;
-      bytes0 = λ m offset written o w p. p;
-      bytes1 = λ m offset written o w p. p;
+      bytes0 = λ m offset written o p. p;
+      bytes1 = λ m offset written o p. p;
       general = λ m k h p. p;
       commands = λ m written s w p. p;
       takes = λ m sci-en w p. p;
@@ -335,22 +335,22 @@ even1 : (m : Machine) → Gpe m → m .settings .gpe1 .length % 2 ≡ 0
 even1 m p = even-length (m .settings .gpe1) (p .0 .gpe1-length) (p .0 .gpe1-none)
 
 module _ (m : Machine) (offset written : ℕ) where
-  bytes0-written : offset < m .settings .gpe0 .length → written < 256 → Gpe m → Gpe (gpeWritten m false offset written)
-  bytes0-written o w p = (
+  bytes0-written : offset < m .settings .gpe0 .length → Gpe m → Gpe (gpeWritten m false offset written)
+  bytes0-written o p = (
     p .0,
     status-written m false offset written (p .1),
-    enable-written m false offset written (m .settings .gpe0 .length) refl (even0 m p) o w (p .2),
+    enable-written m false offset written (m .settings .gpe0 .length) refl (even0 m p) o (p .2),
     p .3,
     p .4,
   )
 
-  bytes1-written : offset < m .settings .gpe1 .length → written < 256 → Gpe m → Gpe (gpeWritten m true offset written)
-  bytes1-written o w p = (
+  bytes1-written : offset < m .settings .gpe1 .length → Gpe m → Gpe (gpeWritten m true offset written)
+  bytes1-written o p = (
     p .0,
     p .1,
     p .2,
     status-written m true offset written (p .3),
-    enable-written m true offset written (m .settings .gpe1 .length) refl (even1 m p) o w (p .4),
+    enable-written m true offset written (m .settings .gpe1 .length) refl (even1 m p) o (p .4),
   )
 
 general-bytes : (m : Machine) (k : ℕ) → (inGpe0 (m .settings) k || inGpe1 (m .settings) k) ≡ true → Gpe m → Gpe (generalRaised m k)

@@ -137,7 +137,7 @@ gpeWritten m true offset written = withGpe m (m .«gpe0_sts») (m .«gpe0_en») 
 
 -- what an accepted write does; "A command write latches the byte", "PM2 bit 0 is ARB_DIS"
 unfoldable pub writeOf : Machine → Register → ℕ → ℕ → ℕ → Machine
-writeOf m register.SmiCmd width offset written = withCommand m true written
+writeOf m register.SmiCmd width offset written = withCommand m true (written % 2 ^ 8)
 writeOf m (register.Pm1Evt b) width offset written =
     withEvent m (statusAfter m b width offset written) (enableAfter m b width offset written)
 writeOf m (register.Pm1Cnt b) width offset written = controlWritten m b width offset written

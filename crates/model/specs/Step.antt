@@ -30,25 +30,25 @@ offsetOf m a = offsetAt (m .settings) (a .port)
 -- ---- the lines of the table, by the kind of step
 
 -- 20, then 21, 23 and 24: of a read
-abbrev pub readLines : Machine → Access → List Line
-readLines m a =
+abbrev pub readLines : Machine → Register → ℕ → ℕ → List Line
+readLines m r width offset =
     answer.Asleep if not (awake m) ∷
-    answer.WrongWidth if wrongWidth (a .width) ∷
-    answer.NoBlock if leadsNowhere (registerOf m a) ∷
-    answer.NotAllowed if not (allowed (registerOf m a) (a .width) (offsetOf m a)) ∷
+    answer.WrongWidth if wrongWidth width ∷
+    answer.NoBlock if leadsNowhere r ∷
+    answer.NotAllowed if not (allowed r width offset) ∷
     []
 
 -- 20, then 21 to 27: of a write
-abbrev pub writeLines : Machine → Access → ℕ → List Line
-writeLines m a written =
+abbrev pub writeLines : Machine → Register → ℕ → ℕ → ℕ → List Line
+writeLines m r width offset written =
     answer.Asleep if not (awake m) ∷
-    answer.WrongWidth if wrongWidth (a .width) ∷
-    answer.DataTooWide if dataTooWide (a .width) written ∷
-    answer.NoBlock if leadsNowhere (registerOf m a) ∷
-    answer.NotAllowed if not (allowed (registerOf m a) (a .width) (offsetOf m a)) ∷
-    answer.TimerWritten if isTimer (registerOf m a) ∷
-    answer.CommandWaits if commandLost m (registerOf m a) ∷
-    answer.NoSleepState if namesNone m (registerOf m a) (a .width) (offsetOf m a) written ∷
+    answer.WrongWidth if wrongWidth width ∷
+    answer.DataTooWide if dataTooWide width written ∷
+    answer.NoBlock if leadsNowhere r ∷
+    answer.NotAllowed if not (allowed r width offset) ∷
+    answer.TimerWritten if isTimer r ∷
+    answer.CommandWaits if commandLost m r ∷
+    answer.NoSleepState if namesNone m r width offset written ∷
     []
 
 -- 28: "what a press, release, sleep press, alarm or PCIe wake belongs to is not fitted"; 29: "a general event number belongs to no block"; 30: "press while down, release while up"
@@ -65,8 +65,8 @@ eventLines m (event.Ticks n) = []
 
 -- 20: "asleep: a bus access, bus-master, unlock or firmware step outside S0"; 31: "firmware takes with no command waiting"
 abbrev pub linesOf : Machine → Step → List Line
-linesOf m (step.Read a) = readLines m a
-linesOf m (step.Write a written) = writeLines m a written
+linesOf m (step.Read a) = readLines m (registerOf m a) (a .width) (offsetOf m a)
+linesOf m (step.Write a written) = writeLines m (registerOf m a) (a .width) (offsetOf m a) written
 linesOf m (step.Event e) = eventLines m e
 linesOf m step.Take = answer.Asleep if not (awake m) ∷ answer.NoCommand if not (m .«command_waits») ∷ []
 linesOf m step.Drop = answer.Asleep if not (awake m) ∷ []

@@ -1,5 +1,8 @@
 // The steps of the machine: what they are and what they answer. The definitions of what each does stand in specs/.
 use machine::Machine;
+ghost use mathlib.Core.Path.{_≡_};
+ghost use Rattle.model.specs.Answer.{numberOf, valueOf};
+ghost use Rattle.model.specs.Step.{accepted};
 
 // A bus access: its first port, and its width in bytes.
 pub struct Access {
@@ -68,4 +71,51 @@ pub enum Register {
     PmTmr,
     Gpe(bool),
     Nowhere,
+}
+
+// Document 01's number of an answer, and its value.
+pub fn number(a: Answer) -> u8
+    ensures { λ r. ⌜ r ≡ numberOf a ⌝ }
+{
+    match a {
+        Answer::Done(_) => 0,
+        Answer::Asleep => 20,
+        Answer::WrongWidth => 21,
+        Answer::DataTooWide => 22,
+        Answer::NoBlock => 23,
+        Answer::NotAllowed => 24,
+        Answer::TimerWritten => 25,
+        Answer::CommandWaits => 26,
+        Answer::NoSleepState => 27,
+        Answer::NotFitted => 28,
+        Answer::NoSuchEvent => 29,
+        Answer::ButtonAlready => 30,
+        Answer::NoCommand => 31,
+    }
+}
+
+pub fn value(a: Answer) -> u32
+    ensures { λ r. ⌜ r ≡ valueOf a ⌝ }
+{
+    match a {
+        Answer::Done(v) => v,
+        Answer::Asleep => 0,
+        Answer::WrongWidth => 0,
+        Answer::DataTooWide => 0,
+        Answer::NoBlock => 0,
+        Answer::NotAllowed => 0,
+        Answer::TimerWritten => 0,
+        Answer::CommandWaits => 0,
+        Answer::NoSleepState => 0,
+        Answer::NotFitted => 0,
+        Answer::NoSuchEvent => 0,
+        Answer::ButtonAlready => 0,
+        Answer::NoCommand => 0,
+    }
+}
+
+pub fn accepted(a: Answer) -> bool
+    ensures { λ r. ⌜ r ≡ accepted a ⌝ }
+{
+    number(a) == 0
 }

@@ -1,10 +1,10 @@
 -- What lies beyond a number's bits, or beyond a list's end, is nothing. Assumes nothing.
-use mathlib.Core.Path.{_≡_, refl, ap}
+use mathlib.Core.Path.{_≡_, refl, sym, _∙_, ap}
 use mathlib.Core.Bool.{false}
 use mathlib.Core.List.{List, [], _∷_}
-use Prim.Native.Nat.{ℕ, zero, suc, _^_, _≤_, _<_}
-use native.Mathlib.Nat.{lt-of-lt-of-le, one-mul, le-of-suc-le-suc, not-suc-le-zero}
-use lib.Bits.{bitAnd, and-comm, and-shifted}
+use Prim.Native.Nat.{ℕ, zero, suc, _%_, _^_, _≤_, _<_}
+use native.Mathlib.Nat.{lt-of-lt-of-le, one-mul, le-of-suc-le-suc, not-suc-le-zero, mod-mod}
+use lib.Bits.{bitAnd, and-comm, and-shifted, and-mask}
 use lib.ListN.{length, getD, set}
 use lib.Pow.{pow-mono}
 use Rattle.machine.specs.Cells.{hasBit}
@@ -16,6 +16,10 @@ apart mask n h g = rw (and-comm mask (2 ^ n), ← one-mul (2 ^ n)) (and-shifted 
 pub bit-beyond : (mask n : ℕ) → mask < 2 ^ 16 → 16 ≤ n → hasBit mask (2 ^ n) ≡ false
 unfolding hasBit
 bit-beyond mask n h g = rw (apart mask n h g) refl
+
+-- the ones of a byte are those of its low eight bits
+pub low-ones : (written : ℕ) → bitAnd (written % 2 ^ 8) 255 ≡ bitAnd written 255
+low-ones written = and-mask (written % 2 ^ 8) 8 ∙ mod-mod written (2 ^ 8) ∙ sym (and-mask written 8)
 
 -- reading past the end gives zero, and writing there does nothing
 pub read-beyond : (bytes : List ℕ) (i : ℕ) → length bytes ≤ i → getD bytes i 0 ≡ 0

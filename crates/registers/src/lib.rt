@@ -7,7 +7,7 @@ use machine::Machine;
 use machine::has_bit;
 use platform::Settings;
 ghost use mathlib.Core.Path.{_≡_};
-ghost use Prim.Native.Nat.{_-_};
+ghost use Prim.Native.Nat.{_-_, _%_, _^_};
 ghost use lib.Bits.{bitAnd};
 ghost use lib.ListN.{getD, set};
 ghost use Rattle.machine.specs.Cells.{
@@ -17,11 +17,11 @@ ghost use Rattle.machine.specs.Cells.{
   shown,
   covered,
   placed,
-  inStatus,
-  eventRegister,
+  statusRegister,
+  enableRegister,
   onesIn,
-  statusAfter,
-  enableAfter,
+  statusCleared,
+  enableTaken,
   controlIn,
   hasPm1bCnt,
   slpTyp,
@@ -33,9 +33,10 @@ ghost use Rattle.machine.specs.Cells.{
   gpeSts,
   gpeEn,
   inGpeStatus,
-  gpeByte,
-  gpeStsAfter,
-  gpeEnAfter,
+  gpeStsByte,
+  gpeEnByte,
+  gpeStsCleared,
+  gpeEnTaken,
 };
 
 // The bits that live in the block, B or A.
@@ -98,22 +99,19 @@ fn placed_in(offset: u64, written: u32, mask: u16) -> u16
     (placed(offset, written) & (mask as u64)) as u16
 }
 
-// The status half comes first, the enable half second.
-fn in_status(offset: u64) -> bool
-    ensures { λ r. ⌜ r ≡ inStatus offset ⌝ }
-{
-    offset < 2
-}
-
-pub fn event_register(m: Machine, b: bool, offset: u64) -> u16
-    ensures { λ r. ⌜ r ≡ eventRegister m b offset ⌝ }
+// What the block's status half, and its enable half, show.
+pub fn status_register(m: Machine, b: bool) -> u16
+    ensures { λ r. ⌜ r ≡ statusRegister m b ⌝ }
 {
     let s = m.settings;
-    pick16(
-        in_status(offset),
-        m.pm1_sts & status_in(s, b),
-        m.pm1_en & enable_in(s, b),
-    )
+    m.pm1_sts & status_in(s, b)
+}
+
+pub fn enable_register(m: Machine, b: bool) -> u16
+    ensures { λ r. ⌜ r ≡ enableRegister m b ⌝ }
+{
+    let s = m.settings;
+    m.pm1_en & enable_in(s, b)
 }
 
 // The ones written to fitted status bits that live in the block.
@@ -125,21 +123,20 @@ fn ones_in(m: Machine, b: bool, width: u32, offset: u64, written: u32) -> u16
 }
 
 // Writing one to a status bit clears it; writing zero keeps it.
-pub fn status_after(m: Machine, b: bool, width: u32, offset: u64, written: u32) -> u16
-    ensures { λ r. ⌜ r ≡ statusAfter m b width offset written ⌝ }
+pub fn status_cleared(m: Machine, b: bool, width: u32, offset: u64, written: u32) -> u16
+    ensures { λ r. ⌜ r ≡ statusCleared m b width offset written ⌝ }
 {
     let ones = ones_in(m, b, width, offset, written);
-    pick16(in_status(offset), m.pm1_sts & !ones, m.pm1_sts)
+    m.pm1_sts & !ones
 }
 
 // An enable bit takes the value written.
-pub fn enable_after(m: Machine, b: bool, width: u32, offset: u64, written: u32) -> u16
-    ensures { λ r. ⌜ r ≡ enableAfter m b width offset written ⌝ }
+pub fn enable_taken(m: Machine, b: bool, width: u32, offset: u64, written: u32) -> u16
+    ensures { λ r. ⌜ r ≡ enableTaken m b width offset written ⌝ }
 {
     let s = m.settings;
     let mask = enable_in(s, b) & covered(width, offset);
-    let taken = (m.pm1_en & !mask) | placed_in(offset, written, mask);
-    pick16(in_status(offset), m.pm1_en, taken)
+    (m.pm1_en & !mask) | placed_in(offset, written, mask)
 }
 
 // A control bit, 0 SCI_EN, 1 BM_RLD or 2 GBL_RLS, lives in the block.
@@ -209,14 +206,14 @@ pub fn gpe_half(s: Settings, b: bool) -> u8
     pick8(b, gpe1.length, gpe0.length) / 2
 }
 
-fn in_gpe_status(s: Settings, b: bool, offset: u64) -> bool
+pub fn in_gpe_status(s: Settings, b: bool, offset: u64) -> bool
     ensures { λ r. ⌜ r ≡ inGpeStatus s b offset ⌝ }
 {
     offset < gpe_half(s, b) as u64
 }
 
 // How far the offset lies past the status bytes.
-fn past_status(s: Settings, b: bool, offset: u64) -> u64
+pub fn past_status(s: Settings, b: bool, offset: u64) -> u64
     ensures { λ r. ⌜ r ≡ offset - gpeHalf s b ⌝ }
 {
     let half = gpe_half(s, b) as u64;
@@ -256,40 +253,43 @@ fn with_byte(mut bytes: [u8; GPE_BYTES], place: u64, byte: u8) -> [u8; GPE_BYTES
     }
 }
 
-pub fn gpe_byte(m: Machine, b: bool, offset: u64) -> u8
-    ensures { λ r. ⌜ r ≡ gpeByte m b offset ⌝ }
+// The block's byte at an offset of its status half, and of its enable half.
+pub fn gpe_sts_byte(m: Machine, b: bool, offset: u64) -> u8
+    ensures { λ r. ⌜ r ≡ gpeStsByte m b offset ⌝ }
 {
-    let s = m.settings;
-    let sts = byte_at(gpe_sts(m, b), offset);
-    let en = byte_at(gpe_en(m, b), past_status(s, b, offset));
-    pick8(in_gpe_status(s, b, offset), sts, en)
+    byte_at(gpe_sts(m, b), offset)
 }
 
-// The status bytes, and the enable bytes, after a write to a byte of the block.
-pub fn gpe_sts_after(m: Machine, b: bool, offset: u64, written: u8) -> [u8; GPE_BYTES]
-    ensures { λ r. ⌜ r ≡ gpeStsAfter m b offset written ⌝ }
+pub fn gpe_en_byte(m: Machine, b: bool, offset: u64) -> u8
+    ensures { λ r. ⌜ r ≡ gpeEnByte m b offset ⌝ }
 {
     let s = m.settings;
-    let sts = gpe_sts(m, b);
-    if in_gpe_status(s, b, offset) {
-        with_byte(
-            sts,
-            offset,
-            bits::clear8(byte_at(sts, offset), written, 255),
-        )
-    } else {
-        sts
-    }
+    byte_at(gpe_en(m, b), past_status(s, b, offset))
 }
 
-pub fn gpe_en_after(m: Machine, b: bool, offset: u64, written: u8) -> [u8; GPE_BYTES]
-    ensures { λ r. ⌜ r ≡ gpeEnAfter m b offset written ⌝ }
+// The low byte of what is written.
+pub fn low_byte(written: u32) -> u8
+    ensures { λ r. ⌜ r ≡ written % 2 ^ 8 ⌝ }
+{
+    (written % 256) as u8
+}
+
+// The status bytes with the ones of the byte written cleared.
+pub fn gpe_sts_cleared(m: Machine, b: bool, offset: u64, written: u32) -> [u8; GPE_BYTES]
+    ensures { λ r. ⌜ r ≡ gpeStsCleared m b offset written ⌝ }
+{
+    let old = gpe_sts_byte(m, b, offset);
+    with_byte(
+        gpe_sts(m, b),
+        offset,
+        bits::clear8(old, low_byte(written), 255),
+    )
+}
+
+// The enable bytes with the byte written.
+pub fn gpe_en_taken(m: Machine, b: bool, offset: u64, written: u32) -> [u8; GPE_BYTES]
+    ensures { λ r. ⌜ r ≡ gpeEnTaken m b offset written ⌝ }
 {
     let s = m.settings;
-    let en = gpe_en(m, b);
-    if in_gpe_status(s, b, offset) {
-        en
-    } else {
-        with_byte(en, past_status(s, b, offset), written)
-    }
+    with_byte(gpe_en(m, b), past_status(s, b, offset), low_byte(written))
 }

@@ -1,0 +1,128 @@
+-- What the tests on the way to a cell say of the offset and of what is written. Assumes nothing.
+use mathlib.Core.Bool.{Bool, true, false, cond}
+use mathlib.Core.Path.{_≡_, refl, sym, _∙_, ap, ap₂}
+use Prim.Native.Nat.{ℕ, _+_, _-_, _%_, _^_, _≤_, _<_}
+use native.Mathlib.Nat.{mod-lt}
+use native.Mathlib.Omega.{arith}
+use borrow.Author.Tests.{eqb-true, ltb-true, not-false}
+use lib.Dec.{eqb, ltb, lit<}
+use Rattle.lists.specs.Any.{any}
+use Rattle.lists.proofs.Tests.{or-left}
+use Rattle.platform.specs.declared.settings.Settings.{Settings}
+use Rattle.machine.specs.Cells.{gpeHalf, inGpeStatus, gpeStsCleared, gpeEnTaken, gpeStsAfter, gpeEnAfter}
+use Rattle.machine.specs.declared.Machine.{Machine}
+use Rattle.machine.specs.Fields.{withGpe}
+use Rattle.model.specs.Answer.{firstApplying}
+use Rattle.model.specs.Bus.{dataTooWide, namesNone, gpeWritten, writeOf}
+use Rattle.model.specs.Step.{registerOf, offsetOf, writeLines, answerTo, accepted, after, stepOf}
+use Rattle.model.specs.declared.Access.{Access}
+use Rattle.model.specs.declared.Answer.{Answer}
+use Rattle.model.specs.declared.Answer.the-variants as answer
+use Rattle.model.specs.declared.Register.{Register}
+use Rattle.model.specs.declared.Step.the-variants as step
+use Rattle.model.specs.declared.Stepped.{Stepped}
+use Rattle.model.proofs.Steps.{zero-exactly, accepted-does, refused-stays}
+use Rattle.model.proofs.Ticks.{cond-same}
+use Rattle.bus.specs.Cells.{gpeCell}
+
+-- a GPE cell below 256 is a status byte, and one from 256 on an enable byte
+module _ (s : Settings) (b : Bool) (offset cell : ℕ) where
+  pub cell-in-status : cell ≡ gpeCell s b offset → cell < 256 → inGpeStatus s b offset ≡ true
+  unfolding gpeCell
+  cell-in-status = go (inGpeStatus s b offset)
+    where
+      go : (t : Bool) → cell ≡ cond t (offset % 256) (256 + (offset - gpeHalf s b) % 256) → cell < 256 → t ≡ true
+      go true e h = refl
+      go false e h = absurd (omega (arith, e))
+
+  pub cell-past-status : cell ≡ gpeCell s b offset → 256 ≤ cell → inGpeStatus s b offset ≡ false
+  unfolding gpeCell
+  cell-past-status = go (inGpeStatus s b offset)
+    where
+      go : (t : Bool) → cell ≡ cond t (offset % 256) (256 + (offset - gpeHalf s b) % 256) → 256 ≤ cell → t ≡ false
+      go true e h = absurd (omega (arith, e))
+      go false e h = refl
+
+-- data that fits its width fits 32 bits
+pub fits-word : (width written : ℕ) → dataTooWide width written ≡ false → written % 2 ^ 32 ≡ written
+unfolding dataTooWide
+fits-word width written e = go (eqb width 1) (eqb width 2) (ltb-true _ _ (not-false _ e))
+  where
+    go : (t u : Bool) → written < cond t (2 ^ 8) (cond u (2 ^ 16) (2 ^ 32)) → written % 2 ^ 32 ≡ written
+    go true u h = omega arith
+    go false true h = omega arith
+    go false false h = omega arith
+
+-- .. so the test of its low 32 bits is the test of it
+pub names-none-low : (m : Machine) (r : Register) (width offset written low : ℕ) (t : Bool) → low ≡ written % 2 ^ 32 → dataTooWide width written ≡ false
+    → namesNone m r width offset low ≡ t → namesNone m r width offset written ≡ t
+names-none-low m r width offset written low t l d e = rw (l ∙ fits-word width written d) at e
+
+-- .. and so an accepted write has no more
+accepted-fits : (m : Machine) (a : Access) (written : ℕ) → accepted (answerTo m (step.Write a written)) ≡ true → written % 2 ^ 32 ≡ written
+unfolding any
+accepted-fits m a written e =
+    fits-word (a .width) written (or-left _ _ (zero-exactly m (step.Write a written) .0 (eqb-true _ _ e) 22))
+
+-- a write to a status byte, and to an enable byte, of a GPE block
+module _ (m : Machine) (b : Bool) (offset written : ℕ) where
+  pub status-byte-written : inGpeStatus (m .settings) b offset ≡ true
+      → gpeWritten m b offset written
+      ≡ withGpe m (cond b (m .«gpe0_sts») (gpeStsCleared m b offset written)) (m .«gpe0_en») (cond b (gpeStsCleared m b offset written) (m .«gpe1_sts»)) (m .«gpe1_en»)
+  unfolding gpeStsAfter gpeEnAfter
+  status-byte-written = go b
+    where
+      go : (b : Bool) → inGpeStatus (m .settings) b offset ≡ true
+          → gpeWritten m b offset written
+          ≡ withGpe m (cond b (m .«gpe0_sts») (gpeStsCleared m b offset written)) (m .«gpe0_en») (cond b (gpeStsCleared m b offset written) (m .«gpe1_sts»)) (m .«gpe1_en»)
+      go true e = rw e refl
+      go false e = rw e refl
+
+  pub enable-byte-written : inGpeStatus (m .settings) b offset ≡ false
+      → gpeWritten m b offset written
+      ≡ withGpe m (m .«gpe0_sts») (cond b (m .«gpe0_en») (gpeEnTaken m b offset written)) (m .«gpe1_sts») (cond b (gpeEnTaken m b offset written) (m .«gpe1_en»))
+  unfolding gpeStsAfter gpeEnAfter
+  enable-byte-written = go b
+    where
+      go : (b : Bool) → inGpeStatus (m .settings) b offset ≡ false
+          → gpeWritten m b offset written
+          ≡ withGpe m (m .«gpe0_sts») (cond b (m .«gpe0_en») (gpeEnTaken m b offset written)) (m .«gpe1_sts») (cond b (gpeEnTaken m b offset written) (m .«gpe1_en»))
+      go true e = rw e refl
+      go false e = rw e refl
+
+-- an accepted write does what its rule says of the low 32 bits, which are all of what is written
+abbrev stepped : Answer → Machine → Stepped
+stepped given next = record { answer = given; machine = next }
+
+module _ (m : Machine) (a : Access) (written : ℕ) (r : Register) (offset : ℕ) (given : Answer) where
+  answered : r ≡ registerOf m a → offset ≡ offsetOf m a → given ≡ firstApplying (writeLines m r (a .width) offset written) (answer.Done 0)
+      → given ≡ answerTo m (step.Write a written)
+  unfolding answerTo
+  answered p q e = e ∙ ap₂ (λ x o. firstApplying (writeLines m x (a .width) o written) (answer.Done 0)) p q
+
+  pub write-accepted : (low : ℕ) (next : Machine) → r ≡ registerOf m a → offset ≡ offsetOf m a
+      → given ≡ firstApplying (writeLines m r (a .width) offset written) (answer.Done 0)
+      → accepted given ≡ true → low ≡ written % 2 ^ 32 → next ≡ writeOf m r (a .width) offset low
+      → stepped given next ≡ stepOf m (step.Write a written)
+  write-accepted low next p q e t l n =
+      let same = answered p q e in
+      let taken : accepted (answerTo m (step.Write a written)) ≡ true = ap accepted (sym same) ∙ t in
+      let whole : low ≡ written = l ∙ accepted-fits m a written taken in
+      ap₂ stepped same
+      (n
+      ∙ ap (λ x. writeOf m r (a .width) offset x) whole
+      ∙ ap₂ (λ x o. writeOf m x (a .width) o written) p q
+      ∙ sym (accepted-does m (step.Write a written) taken))
+
+  pub write-refused : r ≡ registerOf m a → offset ≡ offsetOf m a
+      → given ≡ firstApplying (writeLines m r (a .width) offset written) (answer.Done 0)
+      → accepted given ≡ false
+      → stepped given m ≡ stepOf m (step.Write a written)
+  write-refused p q e t =
+      let same = answered p q e in
+      ap₂ stepped same (sym (refused-stays m (step.Write a written) (ap accepted (sym same) ∙ t)))
+
+-- a read leaves the machine as it was
+pub read-stays : (m : Machine) (a : Access) → after m (step.Read a) ≡ m
+unfolding after
+read-stays m a = cond-same (accepted (answerTo m (step.Read a))) m

@@ -1,0 +1,131 @@
+// What a read gives and a write does: one match on the register kind and the offset chooses the byte's cell rule.
+use bits::pick32;
+use bits::pick64;
+use control::write_control;
+use machine::GPE_BYTES;
+use machine::Machine;
+use model::Register;
+use platform::Settings;
+use registers::shown;
+ghost use mathlib.Core.Path.{_≡_};
+ghost use mathlib.Core.Bool.{cond, true};
+ghost use Rattle.bus.specs.Cells.{gpeCell};
+ghost use Rattle.machine.specs.Fields.{withEvent, withGpe, withCommand, withArbDis};
+ghost use Rattle.model.specs.Bus.{readOf, writeOf};
+
+// A GPE block's bytes as cells, since a length is a byte: status bytes from 0 on, enable bytes from 256 on.
+fn gpe_cell(s: Settings, b: bool, offset: u64) -> u64
+    ensures { λ r. ⌜ r ≡ gpeCell s b offset ⌝ }
+{
+    let past = registers::past_status(s, b, offset);
+    pick64(
+        registers::in_gpe_status(s, b, offset),
+        offset % 256,
+        256 + past % 256,
+    )
+}
+
+pub fn read_cells(m: Machine, r: Register, width: u32, offset: u64) -> u32
+    ensures { λ result. ⌜ result ≡ readOf m r width offset ⌝ }
+{
+    let s = m.settings;
+    match r {
+        Register::SmiCmd => 0,
+        Register::Pm1Evt(b) => match offset {
+            0..=1 => shown(width, offset, registers::status_register(m, b) as u32),
+            _ => shown(width, offset, registers::enable_register(m, b) as u32),
+        },
+        Register::Pm1Cnt(b) => shown(width, offset, registers::control_register(m, b)),
+        Register::Pm2Cnt => pick32(m.arb_dis, 1, 0),
+        Register::PmTmr => m.counter,
+        Register::Gpe(b) => {
+            let cell = gpe_cell(s, b, offset);
+            match cell {
+                0..=255 => registers::gpe_sts_byte(m, b, offset) as u32,
+                _ => registers::gpe_en_byte(m, b, offset) as u32,
+            }
+        }
+        Register::Nowhere => 0,
+    }
+}
+
+// The machine with its PM1 event cells changed.
+fn with_event(mut m: Machine, sts: u16, en: u16) -> Machine
+    ensures { λ r. ⌜ r ≡ withEvent m sts en ⌝ }
+{
+    m.pm1_sts = sts;
+    m.pm1_en = en;
+    m
+}
+
+// A command write latches the byte.
+fn latch(mut m: Machine, command: u8) -> Machine
+    ensures { λ r. ⌜ r ≡ withCommand m true command ⌝ }
+{
+    m.command_waits = true;
+    m.command = command;
+    m
+}
+
+// PM2 bit 0 is ARB_DIS.
+fn with_arb_dis(mut m: Machine, arb_dis: bool) -> Machine
+    ensures { λ r. ⌜ r ≡ withArbDis m «arb_dis» ⌝ }
+{
+    m.arb_dis = arb_dis;
+    m
+}
+
+// The machine with the status bytes, or the enable bytes, of a GPE block changed.
+fn with_gpe_sts(mut m: Machine, b: bool, sts: [u8; GPE_BYTES]) -> Machine
+    ensures { λ r. ⌜ r ≡ withGpe m (cond b (m .«gpe0_sts») sts) (m .«gpe0_en») (cond b sts (m .«gpe1_sts»)) (m .«gpe1_en») ⌝ }
+{
+    if b {
+        m.gpe1_sts = sts;
+        m
+    } else {
+        m.gpe0_sts = sts;
+        m
+    }
+}
+
+fn with_gpe_en(mut m: Machine, b: bool, en: [u8; GPE_BYTES]) -> Machine
+    ensures { λ r. ⌜ r ≡ withGpe m (m .«gpe0_sts») (cond b (m .«gpe0_en») en) (m .«gpe1_sts») (cond b en (m .«gpe1_en»)) ⌝ }
+{
+    if b {
+        m.gpe1_en = en;
+        m
+    } else {
+        m.gpe0_en = en;
+        m
+    }
+}
+
+pub fn write_cells(m: Machine, r: Register, width: u32, offset: u64, written: u32) -> Machine
+    ensures { λ result. ⌜ result ≡ writeOf m r width offset written ⌝ }
+{
+    let s = m.settings;
+    match r {
+        Register::SmiCmd => latch(m, registers::low_byte(written)),
+        Register::Pm1Evt(b) => match offset {
+            0..=1 => {
+                let sts = registers::status_cleared(m, b, width, offset, written);
+                with_event(m, sts, m.pm1_en)
+            }
+            _ => {
+                let en = registers::enable_taken(m, b, width, offset, written);
+                with_event(m, m.pm1_sts, en)
+            }
+        },
+        Register::Pm1Cnt(b) => write_control(m, b, width, offset, written),
+        Register::Pm2Cnt => with_arb_dis(m, written % 2 == 1),
+        Register::PmTmr => m,
+        Register::Gpe(b) => {
+            let cell = gpe_cell(s, b, offset);
+            match cell {
+                0..=255 => with_gpe_sts(m, b, registers::gpe_sts_cleared(m, b, offset, written)),
+                _ => with_gpe_en(m, b, registers::gpe_en_taken(m, b, offset, written)),
+            }
+        }
+        Register::Nowhere => m,
+    }
+}

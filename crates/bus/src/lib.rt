@@ -1,0 +1,120 @@
+// Bus accesses.
+mod cells;
+
+use cells::read_cells;
+use cells::write_cells;
+use control::names_none;
+use machine::Machine;
+use machine::awake;
+use model::Access;
+use model::Answer;
+use model::Register;
+use model::Stepped;
+use ports::allowed;
+use ports::command_lost;
+use ports::data_too_wide;
+use ports::is_timer;
+use ports::leads_nowhere;
+use ports::offset_at;
+use ports::register_at;
+use ports::wrong_width;
+ghost use mathlib.Core.Path.{_≡_};
+ghost use Prim.Native.Nat.{_%_, _^_};
+ghost use Rattle.model.specs.Answer.{firstApplying};
+ghost use Rattle.model.specs.Bus.{readOf};
+ghost use Rattle.model.specs.Step.{readLines, writeLines, stepOf};
+ghost use Rattle.model.specs.declared.Answer.the-variants as answer;
+ghost use Rattle.model.specs.declared.Step.the-variants as step;
+
+// 20, 21, 23 and 24; else what is read.
+fn read_answer(m: Machine, r: Register, width: u32, offset: u64) -> Answer
+    ensures { λ result. ⌜ result ≡ firstApplying (readLines m r width offset) (answer.Done (readOf m r width offset)) ⌝ }
+{
+    if awake(m) {
+        if wrong_width(width) {
+            return Answer::WrongWidth;
+        }
+        if leads_nowhere(r) {
+            return Answer::NoBlock;
+        }
+        if allowed(r, width, offset) {
+            Answer::Done(read_cells(m, r, width, offset))
+        } else {
+            Answer::NotAllowed
+        }
+    } else {
+        Answer::Asleep
+    }
+}
+
+// A read changes nothing.
+pub fn read(m: Machine, access: Access) -> Stepped
+    ensures { λ r. ⌜ r ≡ stepOf m (step.Read access) ⌝ }
+{
+    let s = m.settings;
+    let port = access.port;
+    let width = access.width;
+    let r = register_at(s, port);
+    let offset = offset_at(s, port);
+    let answer = read_answer(m, r, width, offset);
+    Stepped { answer, machine: m }
+}
+
+// What is written; wider data is refused, so no bit is lost.
+fn low(written: u64) -> u32
+    ensures { λ r. ⌜ r ≡ written % 2 ^ 32 ⌝ }
+{
+    (written % 0x100000000) as u32
+}
+
+// 20 to 27, else 0.
+fn write_answer(m: Machine, r: Register, width: u32, offset: u64, written: u64) -> Answer
+    ensures { λ result. ⌜ result ≡ firstApplying (writeLines m r width offset written) (answer.Done 0) ⌝ }
+{
+    if awake(m) {
+        if wrong_width(width) {
+            return Answer::WrongWidth;
+        }
+        if data_too_wide(width, written) {
+            return Answer::DataTooWide;
+        }
+        if leads_nowhere(r) {
+            return Answer::NoBlock;
+        }
+        if allowed(r, width, offset) {
+            if is_timer(r) {
+                return Answer::TimerWritten;
+            }
+            if command_lost(m, r) {
+                return Answer::CommandWaits;
+            }
+            if names_none(m, r, width, offset, low(written)) {
+                Answer::NoSleepState
+            } else {
+                Answer::Done(0)
+            }
+        } else {
+            Answer::NotAllowed
+        }
+    } else {
+        Answer::Asleep
+    }
+}
+
+// An accepted write does what its register's rule says; a refused one changes nothing.
+pub fn write(m: Machine, access: Access, written: u64) -> Stepped
+    ensures { λ r. ⌜ r ≡ stepOf m (step.Write access written) ⌝ }
+{
+    let s = m.settings;
+    let port = access.port;
+    let width = access.width;
+    let r = register_at(s, port);
+    let offset = offset_at(s, port);
+    let answer = write_answer(m, r, width, offset, written);
+    if model::accepted(answer) {
+        let machine = write_cells(m, r, width, offset, low(written));
+        Stepped { answer, machine }
+    } else {
+        Stepped { answer, machine: m }
+    }
+}

@@ -1,0 +1,33 @@
+-- `control::named_state` meets its contract: what its calls and tests say, put together, is the definition. Assumes nothing.
+use borrow.Author.Needs.{needs}
+use Rattle.control.proofs.named_state.Statement.{statement}
+use Rattle.control.proofs.named_state.Tie as tie
+
+pairs-requires : tie.Need-pairs-requires
+pairs-requires c κs = search needs
+
+typ-after-requires : tie.Need-typ-after-requires
+typ-after-requires c κs = search needs
+
+typ-after-requires-2 : tie.Need-typ-after-requires-2
+typ-after-requires-2 c κs = search needs
+
+has-pm1b-cnt-requires : tie.Need-has-pm1b-cnt-requires
+has-pm1b-cnt-requires c κs = search needs
+
+state-of-requires : tie.Need-state-of-requires
+state-of-requires c κs = search needs
+
+returns : tie.Need-returns
+returns c = simp (c .state-of .ensures, c .before .has-pm1b-cnt .ensures, c .before .before .typ-after2 .ensures, c .before .before .before .typ-after .ensures, c .before .before .before .before .pairs .ensures)
+
+pub named-state-spec : {M : Type 1} → statement M
+named-state-spec =
+    tie.close
+    (tie.spec
+    pairs-requires
+    typ-after-requires
+    typ-after-requires-2
+    has-pm1b-cnt-requires
+    state-of-requires
+    returns)

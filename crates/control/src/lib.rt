@@ -1,0 +1,130 @@
+// What a write to a PM1 control register does.
+use bits::pick_bool;
+use bits::pick8;
+use machine::Machine;
+use model::Register;
+use registers::control_in;
+use registers::covers_high;
+use registers::covers_low;
+use registers::has_pm1b_cnt;
+use registers::placed;
+use registers::written_bit;
+ghost use mathlib.Core.Path.{_≡_};
+ghost use Rattle.model.specs.Bus.{setsSlpEn, writtenTyp, typAfter, completes, armedAfter, namedState, namesNone, bmRldAfter, gblRlsAfter, controlled, controlWritten};
+
+fn sets_slp_en(width: u32, offset: u64, written: u32) -> bool
+    ensures { λ r. ⌜ r ≡ setsSlpEn width offset written ⌝ }
+{
+    covers_high(width, offset) & written_bit(offset, written, 13)
+}
+
+// SLP_TYP, bits 10 to 12.
+fn written_typ(offset: u64, written: u32) -> u8
+    ensures { λ r. ⌜ r ≡ writtenTyp offset written ⌝ }
+{
+    let p = placed(offset, written);
+    (p / 1024 % 8) as u8
+}
+
+// The latched SLP_TYP of block A, or of B where `of_b`, after a write to block `b`.
+fn typ_after(m: Machine, b: bool, of_b: bool, width: u32, offset: u64, written: u32) -> u8
+    ensures { λ r. ⌜ r ≡ typAfter m b «of_b» width offset written ⌝ }
+{
+    let high = covers_high(width, offset);
+    let typ = written_typ(offset, written);
+    if of_b {
+        pick8(b & high, typ, m.slp_typ_b)
+    } else {
+        pick8(!b & high, typ, m.slp_typ_a)
+    }
+}
+
+fn completes(m: Machine, b: bool, width: u32, offset: u64, written: u32) -> bool
+    ensures { λ r. ⌜ r ≡ completes m b width offset written ⌝ }
+{
+    let s = m.settings;
+    sets_slp_en(width, offset, written) & pick_bool(has_pm1b_cnt(s), b & m.armed, !b)
+}
+
+fn armed_after(m: Machine, b: bool, width: u32, offset: u64, written: u32) -> bool
+    ensures { λ r. ⌜ r ≡ armedAfter m b width offset written ⌝ }
+{
+    let s = m.settings;
+    let arms = written_bit(offset, written, 13) & (has_pm1b_cnt(s) & !b);
+    pick_bool(covers_high(width, offset), arms, m.armed)
+}
+
+// The state that the pair names with what this write latches, or 0.
+fn named_state(m: Machine, b: bool, width: u32, offset: u64, written: u32) -> u8
+    ensures { λ r. ⌜ r ≡ namedState m b width offset written ⌝ }
+{
+    let s = m.settings;
+    let table = s.sleep;
+    let pairs = table.pairs();
+    let typ_a = typ_after(m, b, false, width, offset, written);
+    let typ_b = typ_after(m, b, true, width, offset, written);
+    sleep::state_of(pairs, has_pm1b_cnt(s), typ_a, typ_b)
+}
+
+// 27: a write that completes a sleep names none of S1 to S5.
+pub fn names_none(m: Machine, r: Register, width: u32, offset: u64, written: u32) -> bool
+    ensures { λ result. ⌜ result ≡ namesNone m r width offset written ⌝ }
+{
+    match r {
+        Register::SmiCmd => false,
+        Register::Pm1Evt(_) => false,
+        Register::Pm1Cnt(b) => {
+            completes(m, b, width, offset, written)
+                & (named_state(m, b, width, offset, written) == 0)
+        }
+        Register::Pm2Cnt => false,
+        Register::PmTmr => false,
+        Register::Gpe(_) => false,
+        Register::Nowhere => false,
+    }
+}
+
+fn bm_rld_after(m: Machine, b: bool, width: u32, offset: u64, written: u32) -> bool
+    ensures { λ r. ⌜ r ≡ bmRldAfter m b width offset written ⌝ }
+{
+    let s = m.settings;
+    let taken = covers_low(width, offset) & control_in(s, b, 1);
+    pick_bool(taken, written_bit(offset, written, 1), m.bm_rld)
+}
+
+fn gbl_rls_after(m: Machine, b: bool, width: u32, offset: u64, written: u32) -> bool
+    ensures { λ r. ⌜ r ≡ gblRlsAfter m b width offset written ⌝ }
+{
+    let s = m.settings;
+    m.gbl_rls
+        | (covers_low(width, offset) & (control_in(s, b, 2) & written_bit(offset, written, 2)))
+}
+
+// The cells after a control write, before any sleep.
+fn controlled(mut m: Machine, b: bool, width: u32, offset: u64, written: u32) -> Machine
+    ensures { λ r. ⌜ r ≡ controlled m b width offset written ⌝ }
+{
+    let bm_rld = bm_rld_after(m, b, width, offset, written);
+    let gbl_rls = gbl_rls_after(m, b, width, offset, written);
+    let slp_typ_a = typ_after(m, b, false, width, offset, written);
+    let slp_typ_b = typ_after(m, b, true, width, offset, written);
+    let armed = armed_after(m, b, width, offset, written);
+    m.bm_rld = bm_rld;
+    m.gbl_rls = gbl_rls;
+    m.slp_typ_a = slp_typ_a;
+    m.slp_typ_b = slp_typ_b;
+    m.armed = armed;
+    m
+}
+
+// .. and the sleep that it completes.
+pub fn write_control(m: Machine, b: bool, width: u32, offset: u64, written: u32) -> Machine
+    ensures { λ r. ⌜ r ≡ controlWritten m b width offset written ⌝ }
+{
+    let next = controlled(m, b, width, offset, written);
+    if completes(m, b, width, offset, written) {
+        next.complete(named_state(m, b, width, offset, written))
+    } else {
+        next
+    }
+}

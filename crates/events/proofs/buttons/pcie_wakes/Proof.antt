@@ -1,0 +1,16 @@
+-- `events::buttons::pcie_wakes` meets its contract: what its calls and tests say, put together, is the definition. Assumes nothing.
+use borrow.Author.Needs.{needs}
+use Rattle.events.proofs.buttons.pcie_wakes.Statement.{statement}
+use Rattle.events.proofs.buttons.pcie_wakes.Tie as tie
+
+is-sleeping-requires : tie.Need-is-sleeping-requires
+is-sleeping-requires c κs = search needs
+
+has-bit-requires : tie.Need-has-bit-requires
+has-bit-requires c κs = search needs
+
+returns : tie.Need-returns
+returns c = simp (c .has-bit .ensures, c .before .is-sleeping .ensures)
+
+pub pcie-wakes-spec : {M : Type 1} → statement M
+pcie-wakes-spec = tie.close (tie.spec is-sleeping-requires has-bit-requires returns)

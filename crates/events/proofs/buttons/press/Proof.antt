@@ -1,0 +1,18 @@
+-- `events::buttons::press` meets its contract: what its calls and tests say, put together, is the definition. Assumes nothing.
+use Rattle.model.specs.Events.{pressOf}
+use borrow.Author.Needs.{needs}
+use Rattle.events.proofs.buttons.press.Statement.{statement}
+use Rattle.events.proofs.buttons.press.Tie as tie
+
+roused-requires : tie.Need-roused-requires
+roused-requires c κs = search needs
+
+button-down-requires : tie.Need-button-down-requires
+button-down-requires c κs = search needs
+
+returns : tie.Need-returns
+unfolding pressOf
+returns c = simp (c .button-down .ensures, c .before .roused .ensures)
+
+pub press-spec : {M : Type 1} → statement M
+press-spec = tie.close (tie.spec roused-requires button-down-requires returns)

@@ -1,0 +1,109 @@
+// The power and sleep buttons, the alarm, and PCIe wake.
+use machine::Machine;
+use machine::PCIEXP_WAKE;
+use machine::PWRBTN;
+use machine::has_bit;
+use machine::is_sleeping;
+use machine::wake_bits;
+use platform::Settings;
+ghost use mathlib.Core.Path.{_≡_};
+ghost use mathlib.Core.Bool.{true, cond};
+ghost use Rattle.machine.specs.Cells.{pwrbtnBit};
+ghost use Rattle.machine.specs.Fields.{withButton};
+ghost use Rattle.machine.specs.Sleep.{restarted, wokenIf};
+ghost use Rattle.model.specs.Events.{fits, raised, inS5, pressOf, releaseOf, signalWakes, signalOf, pcieWakes, pcieWakeOf};
+
+// Whether the status bit is fitted.
+pub fn fits(s: Settings, bit: u16) -> bool
+    ensures { λ r. ⌜ r ≡ fits s bit ⌝ }
+{
+    has_bit(platform::status_cells(s), bit)
+}
+
+pub fn raise(m: Machine, bits: u16) -> Machine
+    ensures { λ r. ⌜ r ≡ raised m bits ⌝ }
+{
+    let mut next = m;
+    next.pm1_sts = next.pm1_sts | bits;
+    next
+}
+
+pub fn in_s5(m: Machine) -> bool
+    ensures { λ r. ⌜ r ≡ inS5 m ⌝ }
+{
+    m.state == 5
+}
+
+// A press wakes: from S5 to a machine started anew, from S1 to S4 with its registers kept.
+fn roused(m: Machine) -> Machine
+    ensures { λ r. ⌜ r ≡ cond (inS5 m) (restarted m) (wokenIf true m) ⌝ }
+{
+    if in_s5(m) {
+        m.restart()
+    } else {
+        m.wake_if(true)
+    }
+}
+
+// The button goes down: its bit is set, and hold is zero.
+fn button_down(m: Machine) -> Machine
+    ensures { λ r. ⌜ r ≡ withButton (raised m pwrbtnBit) true 0 ⌝ }
+{
+    let mut next = m;
+    next.pm1_sts = next.pm1_sts | PWRBTN;
+    next.button = true;
+    next.hold = 0;
+    next
+}
+
+pub fn press(m: Machine) -> Machine
+    ensures { λ r. ⌜ r ≡ pressOf m ⌝ }
+{
+    button_down(roused(m))
+}
+
+// The button goes up; hold is kept.
+pub fn release(m: Machine) -> Machine
+    ensures { λ r. ⌜ r ≡ releaseOf m ⌝ }
+{
+    let mut next = m;
+    next.button = false;
+    next
+}
+
+// Whether the bit is enabled, and wakes the state.
+fn signal_wakes(m: Machine, bit: u16) -> bool
+    ensures { λ r. ⌜ r ≡ signalWakes m bit ⌝ }
+{
+    let s = m.settings;
+    has_bit(m.pm1_en, bit) & has_bit(wake_bits(s, m.state), bit)
+}
+
+// A sleep press or an alarm: its bit is set, and may wake. In S5 it does nothing.
+pub fn signal(m: Machine, bit: u16) -> Machine
+    ensures { λ r. ⌜ r ≡ signalOf m bit ⌝ }
+{
+    if in_s5(m) {
+        m
+    } else {
+        raise(m, bit).wake_if(signal_wakes(m, bit))
+    }
+}
+
+// In S1 to S4, and not disabled.
+fn pcie_wakes(m: Machine) -> bool
+    ensures { λ r. ⌜ r ≡ pcieWakes m ⌝ }
+{
+    is_sleeping(m.state) & !has_bit(m.pm1_en, PCIEXP_WAKE)
+}
+
+// Its bit is set and the machine wakes, or nothing happens.
+pub fn pcie_wake(m: Machine) -> Machine
+    ensures { λ r. ⌜ r ≡ pcieWakeOf m ⌝ }
+{
+    if pcie_wakes(m) {
+        raise(m, PCIEXP_WAKE).wake_if(true)
+    } else {
+        m
+    }
+}

@@ -1,0 +1,115 @@
+// General events.
+use crate::buttons::in_s5;
+use machine::GPE_BYTES;
+use machine::Machine;
+use machine::has_bit8;
+use platform::Settings;
+ghost use mathlib.Core.Path.{_≡_};
+ghost use Prim.Native.Nat.{_-_, _^_, _<_};
+ghost use Rattle.model.specs.Events.{inGpe0, inGpe1, numberIn, withBit, isEnabled, generalRaised, generalEnabled, generalOf};
+
+// The event is one of GPE0's.
+pub fn in_gpe0(s: Settings, k: u32) -> bool
+    ensures { λ r. ⌜ r ≡ inGpe0 s k ⌝ }
+{
+    let block = s.gpe0;
+    (k as u64) < platform::event_count(block)
+}
+
+// How far the number lies past GPE1_BASE; zero below it.
+fn past_base(s: Settings, k: u32) -> u32
+    ensures { λ r. ⌜ r ≡ k - s .«gpe1_base» ⌝ }
+{
+    let base = s.gpe1_base as u32;
+    if base <= k { k - base } else { 0 }
+}
+
+// .. or of GPE1's.
+pub fn in_gpe1(s: Settings, k: u32) -> bool
+    ensures { λ r. ⌜ r ≡ inGpe1 s k ⌝ }
+{
+    let block = s.gpe1;
+    let base = s.gpe1_base as u32;
+    (base <= k) & ((past_base(s, k) as u64) < platform::event_count(block))
+}
+
+fn number_in(s: Settings, k: u32) -> u32
+    ensures { λ r. ⌜ r ≡ numberIn s k ⌝ }
+{
+    if in_gpe0(s, k) { k } else { past_base(s, k) }
+}
+
+fn bit8(j: u32) -> u8
+    requires { ⌜ j < 8 ⌝ }
+    ensures { λ r. ⌜ r ≡ 2 ^ j ⌝ }
+{
+    1 << j
+}
+
+// Status bytes with event k's bit set.
+fn with_bit(xs: [u8; GPE_BYTES], k: u32) -> [u8; GPE_BYTES]
+    ensures { λ r. ⌜ r ≡ withBit xs k ⌝ }
+{
+    let i = (k / 8) as usize;
+    let mut ys = xs;
+    if i < GPE_BYTES {
+        ys[i] = xs[i] | bit8(k % 8);
+        ys
+    } else {
+        ys
+    }
+}
+
+// Whether event k's bit is set in these enable bytes.
+fn is_enabled(xs: [u8; GPE_BYTES], k: u32) -> bool
+    ensures { λ r. ⌜ r ≡ isEnabled xs k ⌝ }
+{
+    let i = (k / 8) as usize;
+    if i < GPE_BYTES {
+        has_bit8(xs[i], bit8(k % 8))
+    } else {
+        false
+    }
+}
+
+fn general_raised(m: Machine, k: u32) -> Machine
+    ensures { λ r. ⌜ r ≡ generalRaised m k ⌝ }
+{
+    let s = m.settings;
+    let sts0 = m.gpe0_sts;
+    let sts1 = m.gpe1_sts;
+    let mut next = m;
+    if in_gpe0(s, k) {
+        let raised = with_bit(sts0, k);
+        next.gpe0_sts = raised;
+        next
+    } else {
+        let raised = with_bit(sts1, number_in(s, k));
+        next.gpe1_sts = raised;
+        next
+    }
+}
+
+fn general_enabled(m: Machine, k: u32) -> bool
+    ensures { λ r. ⌜ r ≡ generalEnabled m k ⌝ }
+{
+    let s = m.settings;
+    let en0 = m.gpe0_en;
+    let en1 = m.gpe1_en;
+    if in_gpe0(s, k) {
+        is_enabled(en0, k)
+    } else {
+        is_enabled(en1, number_in(s, k))
+    }
+}
+
+// Its bit is set, and wakes where it is enabled. In S5 it does nothing.
+pub fn general(m: Machine, k: u32) -> Machine
+    ensures { λ r. ⌜ r ≡ generalOf m k ⌝ }
+{
+    if in_s5(m) {
+        m
+    } else {
+        general_raised(m, k).wake_if(general_enabled(m, k))
+    }
+}

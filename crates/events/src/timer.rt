@@ -1,0 +1,60 @@
+// Ticks of the PM timer.
+use crate::buttons::fits;
+use crate::buttons::raise;
+use bits::pick16;
+use clock::Clock;
+use machine::Machine;
+use machine::TMR;
+use machine::awake;
+use platform::Settings;
+ghost use mathlib.Core.Path.{_≡_};
+ghost use mathlib.Core.Bool.{cond};
+ghost use Rattle.machine.specs.Fields.{withTime};
+ghost use Rattle.machine.specs.Sleep.{overridden};
+ghost use Rattle.model.specs.Events.{tmrRaised, timed, ticksOf};
+
+fn tmr_raised(s: Settings, turns: u32) -> u16
+    ensures { λ r. ⌜ r ≡ tmrRaised s turns ⌝ }
+{
+    pick16(fits(s, TMR) & (turns != 0), TMR, 0)
+}
+
+fn set_time(m: Machine, counter: u32, hold: u32) -> Machine
+    ensures { λ r. ⌜ r ≡ withTime m counter hold ⌝ }
+{
+    let mut next = m;
+    next.counter = counter;
+    next.hold = hold;
+    next
+}
+
+fn overridden_if(off: bool, m: Machine) -> Machine
+    ensures { λ r. ⌜ r ≡ cond off (overridden m) m ⌝ }
+{
+    if off { m.override_power() } else { m }
+}
+
+// The machine with a clock's counter, hold, turns and override.
+fn timed(m: Machine, t: Clock) -> Machine
+    ensures { λ r. ⌜ r ≡ timed m t ⌝ }
+{
+    let s = m.settings;
+    let raised = raise(m, tmr_raised(s, t.turns));
+    overridden_if(t.off, set_time(raised, t.counter, t.hold))
+}
+
+// n ticks at once, in S0 only.
+pub fn ticks(m: Machine, n: u32) -> Machine
+    ensures { λ r. ⌜ r ≡ ticksOf n m ⌝ }
+{
+    let s = m.settings;
+    if awake(m) {
+        let wide = platform::wide_timer(s);
+        timed(
+            m,
+            clock::ticks(wide, m.button, s.power_override, m.counter, m.hold, n),
+        )
+    } else {
+        m
+    }
+}

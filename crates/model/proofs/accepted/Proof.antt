@@ -1,0 +1,13 @@
+-- `model::accepted` meets its contract: what its calls and tests say, put together, is the definition. Assumes nothing.
+use borrow.Author.Needs.{needs}
+use Rattle.model.proofs.accepted.Statement.{statement}
+use Rattle.model.proofs.accepted.Tie as tie
+
+number-requires : tie.Need-number-requires
+number-requires c κs = search needs
+
+returns : tie.Need-returns
+returns c = simp (c .number .ensures)
+
+pub accepted-spec : {M : Type 1} → statement M
+accepted-spec = tie.close (tie.spec number-requires returns)

@@ -1,0 +1,12 @@
+-- `ports::tests::wrong_width` meets its contract: what its calls and tests say, put together, is the definition. Assumes nothing.
+use mathlib.Core.Path.{refl}
+use Rattle.model.specs.Bus.{wrongWidth}
+use Rattle.ports.proofs.tests.wrong_width.Statement.{statement}
+use Rattle.ports.proofs.tests.wrong_width.Tie as tie
+
+returns : tie.Need-returns
+unfolding wrongWidth
+returns c = refl
+
+pub wrong-width-spec : {M : Type 1} → statement M
+wrong-width-spec = tie.close (tie.spec returns)

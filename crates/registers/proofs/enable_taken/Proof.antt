@@ -1,0 +1,20 @@
+-- `registers::enable_taken` meets its contract: what its calls and tests say, put together, is the definition. Assumes nothing.
+use borrow.Author.Needs.{needs}
+use Rattle.registers.proofs.enable_taken.Statement.{statement}
+use Rattle.registers.proofs.enable_taken.Tie as tie
+
+enable-in-requires : tie.Need-enable-in-requires
+enable-in-requires c κs = search needs
+
+covered-requires : tie.Need-covered-requires
+covered-requires c κs = search needs
+
+placed-in-requires : tie.Need-placed-in-requires
+placed-in-requires c κs = search needs
+
+returns : tie.Need-returns
+returns c = simp (c .placed-in .ensures, c .before .before .covered .ensures, c .before .before .before .enable-in .ensures)
+
+pub enable-taken-spec : {M : Type 1} → statement M
+enable-taken-spec =
+    tie.close (tie.spec enable-in-requires covered-requires placed-in-requires returns)

@@ -1,0 +1,34 @@
+-- `registers::gpe_sts_cleared` meets its contract: what its calls and tests say, put together, is the definition. Assumes nothing.
+use borrow.Author.Needs.{needs}
+use Rattle.registers.proofs.Beyond.{low-ones}
+use Rattle.registers.proofs.gpe_sts_cleared.Statement.{statement}
+use Rattle.registers.proofs.gpe_sts_cleared.Tie as tie
+
+gpe-sts-byte-requires : tie.Need-gpe-sts-byte-requires
+gpe-sts-byte-requires c κs = search needs
+
+gpe-sts-requires : tie.Need-gpe-sts-requires
+gpe-sts-requires c κs = search needs
+
+low-byte-requires : tie.Need-low-byte-requires
+low-byte-requires c κs = search needs
+
+clear8-requires : tie.Need-clear8-requires
+clear8-requires c κs = search needs
+
+with-byte-requires : tie.Need-with-byte-requires
+with-byte-requires c κs = search needs
+
+returns : tie.Need-returns
+returns c = simp (c .with-byte .ensures, c .before .clear8 .ensures, c .before .before .low-byte .ensures, c .before .before .before .gpe-sts .ensures, c .before .before .before .before .gpe-sts-byte .ensures, low-ones)
+
+pub gpe-sts-cleared-spec : {M : Type 1} → statement M
+gpe-sts-cleared-spec =
+    tie.close
+    (tie.spec
+    gpe-sts-byte-requires
+    gpe-sts-requires
+    low-byte-requires
+    clear8-requires
+    with-byte-requires
+    returns)

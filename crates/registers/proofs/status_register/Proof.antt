@@ -1,0 +1,13 @@
+-- `registers::status_register` meets its contract: what its calls and tests say, put together, is the definition. Assumes nothing.
+use borrow.Author.Needs.{needs}
+use Rattle.registers.proofs.status_register.Statement.{statement}
+use Rattle.registers.proofs.status_register.Tie as tie
+
+status-in-requires : tie.Need-status-in-requires
+status-in-requires c κs = search needs
+
+returns : tie.Need-returns
+returns c = simp (c .before .status-in .ensures)
+
+pub status-register-spec : {M : Type 1} → statement M
+status-register-spec = tie.close (tie.spec status-in-requires returns)

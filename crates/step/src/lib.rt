@@ -1,0 +1,18 @@
+// One step of the machine.
+use machine::Machine;
+use model::Step;
+use model::Stepped;
+ghost use mathlib.Core.Path.{_≡_};
+ghost use Rattle.model.specs.Step.{stepOf};
+
+pub fn step(m: Machine, s: Step) -> Stepped
+    ensures { λ r. ⌜ r ≡ stepOf m s ⌝ }
+{
+    match s {
+        Step::Read(access) => bus::read(m, access),
+        Step::Write(access, written) => bus::write(m, access, written),
+        Step::Event(e) => events::event(m, e),
+        Step::Take => firmware::take(m),
+        Step::Drop => firmware::drop(m),
+    }
+}
