@@ -25,7 +25,7 @@ fn gpe_cell(s: Settings, b: bool, offset: u64) -> u64
     )
 }
 
-pub fn read_cells(m: Machine, r: Register, width: u32, offset: u64) -> u32
+pub(crate) fn read_cells(m: Machine, r: Register, width: u32, offset: u64) -> u32
     ensures { λ result. ⌜ result ≡ readOf m r width offset ⌝ }
 {
     let s = m.settings;
@@ -100,7 +100,7 @@ fn with_gpe_en(mut m: Machine, b: bool, en: [u8; GPE_BYTES]) -> Machine
     }
 }
 
-pub fn write_cells(m: Machine, r: Register, width: u32, offset: u64, written: u32) -> Machine
+pub(crate) fn write_cells(m: Machine, r: Register, width: u32, offset: u64, written: u32) -> Machine
     ensures { λ result. ⌜ result ≡ writeOf m r width offset written ⌝ }
 {
     let s = m.settings;

@@ -14,13 +14,13 @@ ghost use Rattle.machine.specs.Sleep.{restarted, wokenIf};
 ghost use Rattle.model.specs.Events.{fits, raised, inS5, pressOf, releaseOf, signalWakes, signalOf, pcieWakes, pcieWakeOf};
 
 // Whether the status bit is fitted.
-pub fn fits(s: Settings, bit: u16) -> bool
+pub(crate) fn fits(s: Settings, bit: u16) -> bool
     ensures { λ r. ⌜ r ≡ fits s bit ⌝ }
 {
     has_bit(platform::status_cells(s), bit)
 }
 
-pub fn raise(m: Machine, bits: u16) -> Machine
+pub(crate) fn raise(m: Machine, bits: u16) -> Machine
     ensures { λ r. ⌜ r ≡ raised m bits ⌝ }
 {
     let mut next = m;
@@ -28,7 +28,7 @@ pub fn raise(m: Machine, bits: u16) -> Machine
     next
 }
 
-pub fn in_s5(m: Machine) -> bool
+pub(crate) fn in_s5(m: Machine) -> bool
     ensures { λ r. ⌜ r ≡ inS5 m ⌝ }
 {
     m.state == 5
@@ -56,14 +56,14 @@ fn button_down(m: Machine) -> Machine
     next
 }
 
-pub fn press(m: Machine) -> Machine
+pub(crate) fn press(m: Machine) -> Machine
     ensures { λ r. ⌜ r ≡ pressOf m ⌝ }
 {
     button_down(roused(m))
 }
 
 // The button goes up; hold is kept.
-pub fn release(m: Machine) -> Machine
+pub(crate) fn release(m: Machine) -> Machine
     ensures { λ r. ⌜ r ≡ releaseOf m ⌝ }
 {
     let mut next = m;
@@ -80,7 +80,7 @@ fn signal_wakes(m: Machine, bit: u16) -> bool
 }
 
 // A sleep press or an alarm: its bit is set, and may wake. In S5 it does nothing.
-pub fn signal(m: Machine, bit: u16) -> Machine
+pub(crate) fn signal(m: Machine, bit: u16) -> Machine
     ensures { λ r. ⌜ r ≡ signalOf m bit ⌝ }
 {
     if in_s5(m) {
@@ -98,7 +98,7 @@ fn pcie_wakes(m: Machine) -> bool
 }
 
 // Its bit is set and the machine wakes, or nothing happens.
-pub fn pcie_wake(m: Machine) -> Machine
+pub(crate) fn pcie_wake(m: Machine) -> Machine
     ensures { λ r. ⌜ r ≡ pcieWakeOf m ⌝ }
 {
     if pcie_wakes(m) {

@@ -9,7 +9,7 @@ ghost use Prim.Native.Nat.{_-_, _^_, _<_};
 ghost use Rattle.model.specs.Events.{inGpe0, inGpe1, numberIn, withBit, isEnabled, generalRaised, generalEnabled, generalOf};
 
 // The event is one of GPE0's.
-pub fn in_gpe0(s: Settings, k: u32) -> bool
+pub(crate) fn in_gpe0(s: Settings, k: u32) -> bool
     ensures { λ r. ⌜ r ≡ inGpe0 s k ⌝ }
 {
     let block = s.gpe0;
@@ -25,7 +25,7 @@ fn past_base(s: Settings, k: u32) -> u32
 }
 
 // .. or of GPE1's.
-pub fn in_gpe1(s: Settings, k: u32) -> bool
+pub(crate) fn in_gpe1(s: Settings, k: u32) -> bool
     ensures { λ r. ⌜ r ≡ inGpe1 s k ⌝ }
 {
     let block = s.gpe1;
@@ -104,7 +104,7 @@ fn general_enabled(m: Machine, k: u32) -> bool
 }
 
 // Its bit is set, and wakes where it is enabled. In S5 it does nothing.
-pub fn general(m: Machine, k: u32) -> Machine
+pub(crate) fn general(m: Machine, k: u32) -> Machine
     ensures { λ r. ⌜ r ≡ generalOf m k ⌝ }
 {
     if in_s5(m) {

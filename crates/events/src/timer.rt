@@ -44,7 +44,7 @@ fn timed(m: Machine, t: Clock) -> Machine
 }
 
 // n ticks at once, in S0 only.
-pub fn ticks(m: Machine, n: u32) -> Machine
+pub(crate) fn ticks(m: Machine, n: u32) -> Machine
     ensures { λ r. ⌜ r ≡ ticksOf n m ⌝ }
 {
     let s = m.settings;

@@ -4,7 +4,6 @@ mod sleeping;
 mod status;
 
 pub use lines::awake;
-pub use lines::gpe_event;
 pub use lines::sci;
 pub use lines::smi;
 use platform::Block;
@@ -12,7 +11,6 @@ use platform::SetUpAnswer;
 use platform::Settings;
 use sleep::SleepTable;
 pub use sleeping::is_sleeping;
-pub use sleeping::pending;
 pub use sleeping::wake_bits;
 pub use status::BM;
 pub use status::GBL;

@@ -27,7 +27,7 @@ fn any_enabled(sts: [u8; GPE_BYTES], en: [u8; GPE_BYTES]) -> bool
     false
 }
 
-pub fn gpe_event(m: Machine) -> bool
+pub(crate) fn gpe_event(m: Machine) -> bool
     ensures { λ r. ⌜ r ≡ gpeEvent m ⌝ }
 {
     let sts0 = m.gpe0_sts;
@@ -37,13 +37,13 @@ pub fn gpe_event(m: Machine) -> bool
     any_enabled(sts0, en0) | any_enabled(sts1, en1)
 }
 
-pub fn pm1_event(m: Machine) -> bool
+fn pm1_event(m: Machine) -> bool
     ensures { λ r. ⌜ r ≡ pm1Event m ⌝ }
 {
     has_bit(m.pm1_sts & m.pm1_en, 0x0721)
 }
 
-pub fn event_output(m: Machine) -> bool
+fn event_output(m: Machine) -> bool
     ensures { λ r. ⌜ r ≡ eventOutput m ⌝ }
 {
     pm1_event(m) | gpe_event(m)

@@ -29,7 +29,7 @@ pub fn wake_bits(settings: Settings, state: u8) -> u16
 }
 
 // Whether an enabled bit that wakes the state, or an enabled GPE, is already set.
-pub fn pending(machine: Machine, state: u8) -> bool
+fn pending(machine: Machine, state: u8) -> bool
     ensures { λ r. ⌜ r ≡ pending machine state ⌝ }
 {
     let settings = machine.settings;
@@ -38,7 +38,7 @@ pub fn pending(machine: Machine, state: u8) -> bool
 
 impl Machine {
     // Completing, wake and override all disarm.
-    pub fn enter(mut self, state: u8) -> Machine
+    fn enter(mut self, state: u8) -> Machine
         ensures { λ r. ⌜ r ≡ enter self state ⌝ }
     {
         self.armed = false;

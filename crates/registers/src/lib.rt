@@ -47,13 +47,13 @@ fn homes_in(homes: u16, b: bool) -> u16
 }
 
 // The fitted cells that the block shows.
-pub fn status_in(s: Settings, b: bool) -> u16
+fn status_in(s: Settings, b: bool) -> u16
     ensures { λ r. ⌜ r ≡ statusIn s b ⌝ }
 {
     platform::status_cells(s) & homes_in(s.event_homes, b)
 }
 
-pub fn enable_in(s: Settings, b: bool) -> u16
+fn enable_in(s: Settings, b: bool) -> u16
     ensures { λ r. ⌜ r ≡ enableIn s b ⌝ }
 {
     platform::enable_cells(s) & homes_in(s.event_homes, b)
@@ -198,7 +198,7 @@ pub fn written_bit(offset: u64, written: u32, n: u8) -> bool
 }
 
 // The status bytes of a GPE block, and as many enable bytes after them.
-pub fn gpe_half(s: Settings, b: bool) -> u8
+fn gpe_half(s: Settings, b: bool) -> u8
     ensures { λ r. ⌜ r ≡ gpeHalf s b ⌝ }
 {
     let gpe0 = s.gpe0;
@@ -220,13 +220,13 @@ pub fn past_status(s: Settings, b: bool, offset: u64) -> u64
     if half <= offset { offset - half } else { 0 }
 }
 
-pub fn gpe_sts(m: Machine, b: bool) -> [u8; GPE_BYTES]
+fn gpe_sts(m: Machine, b: bool) -> [u8; GPE_BYTES]
     ensures { λ r. ⌜ r ≡ gpeSts m b ⌝ }
 {
     if b { m.gpe1_sts } else { m.gpe0_sts }
 }
 
-pub fn gpe_en(m: Machine, b: bool) -> [u8; GPE_BYTES]
+fn gpe_en(m: Machine, b: bool) -> [u8; GPE_BYTES]
     ensures { λ r. ⌜ r ≡ gpeEn m b ⌝ }
 {
     if b { m.gpe1_en } else { m.gpe0_en }
