@@ -1,8 +1,8 @@
 // Bus accesses.
-mod cells;
+mod cell_rules;
 
-use cells::read_cells;
-use cells::write_cells;
+use cell_rules::read_cells;
+use cell_rules::write_cells;
 use control::names_none;
 use machine::Machine;
 use machine::awake;

@@ -1,8 +1,8 @@
--- `bus::cells::gpe_cell` meets its contract: what its calls and tests say, put together, is the definition. Assumes nothing.
+-- `bus::cell_rules::gpe_cell` meets its contract: what its calls and tests say, put together, is the definition. Assumes nothing.
 use Rattle.bus.specs.Cells.{gpeCell}
 use borrow.Author.Needs.{needs}
-use Rattle.bus.proofs.cells.gpe_cell.Statement.{statement}
-use Rattle.bus.proofs.cells.gpe_cell.Tie as tie
+use Rattle.bus.proofs.cell_rules.gpe_cell.Statement.{statement}
+use Rattle.bus.proofs.cell_rules.gpe_cell.Tie as tie
 
 past-status-requires : tie.Need-past-status-requires
 past-status-requires c κs = search needs

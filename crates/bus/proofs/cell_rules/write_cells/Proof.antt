@@ -1,11 +1,11 @@
--- `bus::cells::write_cells` meets its contract: what its calls and tests say, put together, is the definition. Assumes nothing.
+-- `bus::cell_rules::write_cells` meets its contract: what its calls and tests say, put together, is the definition. Assumes nothing.
 use Rattle.model.specs.Bus.{writeOf}
 use borrow.Author.Needs.{needs}
 use borrow.Author.Tests.{lt-ltb, le-ltb}
 use Rattle.bus.proofs.Laws.{cell-in-status, cell-past-status, status-byte-written, enable-byte-written}
 use Rattle.machine.specs.Cells.{inStatus, statusAfter, enableAfter}
-use Rattle.bus.proofs.cells.write_cells.Statement.{statement}
-use Rattle.bus.proofs.cells.write_cells.Tie as tie
+use Rattle.bus.proofs.cell_rules.write_cells.Statement.{statement}
+use Rattle.bus.proofs.cell_rules.write_cells.Tie as tie
 
 enum-told : tie.Need-enum-told
 enum-told c = search needs

@@ -1,11 +1,11 @@
--- `bus::cells::read_cells` meets its contract: what its calls and tests say, put together, is the definition. Assumes nothing.
+-- `bus::cell_rules::read_cells` meets its contract: what its calls and tests say, put together, is the definition. Assumes nothing.
 use Rattle.model.specs.Bus.{readOf}
 use borrow.Author.Needs.{needs}
 use borrow.Author.Tests.{lt-ltb, le-ltb}
 use Rattle.bus.proofs.Laws.{cell-in-status, cell-past-status}
 use Rattle.machine.specs.Cells.{inStatus}
-use Rattle.bus.proofs.cells.read_cells.Statement.{statement}
-use Rattle.bus.proofs.cells.read_cells.Tie as tie
+use Rattle.bus.proofs.cell_rules.read_cells.Statement.{statement}
+use Rattle.bus.proofs.cell_rules.read_cells.Tie as tie
 
 enum-told : tie.Need-enum-told
 enum-told c = search needs

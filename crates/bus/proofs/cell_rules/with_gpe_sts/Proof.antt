@@ -1,0 +1,12 @@
+-- `bus::cell_rules::with_gpe_sts` meets its contract: what its calls and tests say, put together, is the definition. Assumes nothing.
+use Rattle.bus.proofs.cell_rules.with_gpe_sts.Statement.{statement}
+use Rattle.bus.proofs.cell_rules.with_gpe_sts.Tie as tie
+
+returns : tie.Need-returns
+returns c = simp (c .if1 .taken)
+
+returns-2 : tie.Need-returns-2
+returns-2 c = simp (c .if1 .left)
+
+pub with-gpe-sts-spec : {M : Type 1} → statement M
+with-gpe-sts-spec = tie.close (tie.spec returns returns-2)
