@@ -6,7 +6,7 @@ use mathlib.Core.Bool.{Bool, true, false, true≢false, false≢true}
 use mathlib.Core.List.{List, [], _∷_, map}
 use Prim.Native.Nat.{ℕ, _+_}
 use native.Mathlib.Omega.{arith}
-use Rattle.runs.specs.Items.{Item, one, control, event, passing, failing, original, moved, stepOf, stepsOf, Every, Run, after, Throughout, Awake}
+use Rattle.runs.specs.Items.{Item, one, control, event, passing, failing, original, moved, stepIn, stepsOf, Every, Run, after, Throughout, Awake}
 use Rattle.runs.proofs.Runs.{Commute}
 use Rattle.runs.proofs.Fit.{Fit, every-imp, sortable-by}
 use Rattle.runs.proofs.Moved.{moved-runs}
@@ -128,7 +128,7 @@ otherOrder =
 order-differs : original items ≡ otherOrder → ⊥
 unfolding original
 order-differs e =
-    let f = ap (map stepOf) e in
+    let f = ap (map stepIn) e in
     let z : _≡_ {A = ℕ} 0 1 = cc in
     omega arith
 
@@ -146,7 +146,7 @@ asleep-runs : Run ans next off (original asleep) (on 0 7)
 unfolding Run original
 asleep-runs = (refl, (refl, (refl, (refl, refl))))
 
-moved-asleep-ends-elsewhere : Run ans next off (moved (λ p. onRight (stepOf p)) asleep) (on 0 7) → ⊥
+moved-asleep-ends-elsewhere : Run ans next off (moved (λ p. onRight (stepIn p)) asleep) (on 0 7) → ⊥
 unfolding Run moved passing failing
 moved-asleep-ends-elsewhere r =
     let e = r .1 .1 .1 .1 in

@@ -4,7 +4,7 @@
 use mathlib.Core.Path.{_≡_, refl}
 use mathlib.Core.Bool.{Bool, true, false, not}
 use mathlib.Core.List.{List, [], _∷_, map}
-use Rattle.runs.specs.Items.{Item, one, control, event, keepIf, passing, failing, stepOf, Every}
+use Rattle.runs.specs.Items.{Item, one, control, event, keepIf, passing, failing, stepIn, Every}
 
 -- a step that stays may be passed by each later one that goes before
 unfoldable pub Sortable : {X : Type 0} → (X → Bool) → (X → X → Type 0) → List X → Type 0
@@ -39,22 +39,22 @@ not-true true e = cc
 not-true false e = refl
 
 module _ {X A : Type 0} (before : X → Bool) (P : X → Type 0) where
-  every-kept : (b : Bool) (x : X × A) (l : List (X × A)) → (b ≡ true → P (stepOf x)) → Every P (map stepOf l) → Every P (map stepOf (keepIf b x l))
+  every-kept : (b : Bool) (x : X × A) (l : List (X × A)) → (b ≡ true → P (stepIn x)) → Every P (map stepIn l) → Every P (map stepIn (keepIf b x l))
   unfolding Every
   every-kept true x l f e = (f refl, e)
   every-kept false x l f e = e
 
   pub every-passing : (l : List (X × A))
-      → Every (λ x. before x ≡ true → P x) (map stepOf l)
-      → Every P (map stepOf (passing (λ p. before (stepOf p)) l))
+      → Every (λ x. before x ≡ true → P x) (map stepIn l)
+      → Every P (map stepIn (passing (λ p. before (stepIn p)) l))
   unfolding Every passing
   every-passing [] e = tt
-  every-passing (x ∷ l) e = every-kept (before (stepOf x)) x (passing (λ p. before (stepOf p)) l) (e .0) (every-passing l (e .1))
+  every-passing (x ∷ l) e = every-kept (before (stepIn x)) x (passing (λ p. before (stepIn p)) l) (e .0) (every-passing l (e .1))
 
   pub every-failing : (l : List (X × A))
-      → Every (λ x. before x ≡ false → P x) (map stepOf l)
-      → Every P (map stepOf (failing (λ p. before (stepOf p)) l))
+      → Every (λ x. before x ≡ false → P x) (map stepIn l)
+      → Every P (map stepIn (failing (λ p. before (stepIn p)) l))
   unfolding Every failing
   every-failing [] e = tt
   every-failing (x ∷ l) e =
-      every-kept (not (before (stepOf x))) x (failing (λ p. before (stepOf p)) l) (λ n. e .0 (not-true _ n)) (every-failing l (e .1))
+      every-kept (not (before (stepIn x))) x (failing (λ p. before (stepIn p)) l) (λ n. e .0 (not-true _ n)) (every-failing l (e .1))

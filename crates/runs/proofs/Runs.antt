@@ -3,7 +3,7 @@
 use mathlib.Core.Path.{_≡_, refl, ap}
 use mathlib.Core.Bool.{Bool}
 use mathlib.Core.List.{List, [], _∷_, _++_, map, append-assoc}
-use Rattle.runs.specs.Items.{Item, one, control, event, original, moved, stepOf, after, Run}
+use Rattle.runs.specs.Items.{Item, one, control, event, original, moved, stepIn, after, Run}
 
 pub original-append : {Y : Type 0} (l k : List (Item Y)) → original (l ++ k) ≡ original l ++ original k
 unfolding original
@@ -27,20 +27,20 @@ module _ {S X A : Type 0} (ans : S → X → A) (next : S → X → S) where
   -- a run of l and then r is one of l, to the state after l, and one of r
   pub run-split : (s : S) (l r : List (X × A)) (t : S)
       → Run ans next s (l ++ r) t
-      → Run ans next s l (after next s (map stepOf l)) × Run ans next (after next s (map stepOf l)) r t
+      → Run ans next s l (after next s (map stepIn l)) × Run ans next (after next s (map stepIn l)) r t
   unfolding Run after
   run-split s [] r t run = (refl, run)
   run-split s (x ∷ l) r t run =
-      let both = run-split (next s (stepOf x)) l r t (run .1) in
+      let both = run-split (next s (stepIn x)) l r t (run .1) in
       ((run .0, both .0), both .1)
 
   pub run-join : (s : S) (l r : List (X × A)) (u t : S) → Run ans next s l u → Run ans next u r t → Run ans next s (l ++ r) t
   unfolding Run
   run-join s [] r u t e run = rw e run
-  run-join s (x ∷ l) r u t h run = (h .0, run-join (next s (stepOf x)) l r u t (h .1) run)
+  run-join s (x ∷ l) r u t h run = (h .0, run-join (next s (stepIn x)) l r u t (h .1) run)
 
   pub run-exchange : (s : S) (x y : X × A) (l : List (X × A)) (t : S)
-      → Commute ans next s (stepOf x) (stepOf y)
+      → Commute ans next s (stepIn x) (stepIn y)
       → Run ans next s (x ∷ y ∷ l) t
       → Run ans next s (y ∷ x ∷ l) t
   unfolding Run
@@ -51,10 +51,10 @@ module _ {S X A : Type 0} (ans : S → X → A) (next : S → X → S) where
 
   -- what follows l and x is changed for what runs as well from there
   pub run-change-rest : (s : S) (l : List (X × A)) (x : X × A) (r k : List (X × A)) (t : S)
-      → (Run ans next (next (after next s (map stepOf l)) (stepOf x)) r t → Run ans next (next (after next s (map stepOf l)) (stepOf x)) k t)
+      → (Run ans next (next (after next s (map stepIn l)) (stepIn x)) r t → Run ans next (next (after next s (map stepIn l)) (stepIn x)) k t)
       → Run ans next s (l ++ (x ∷ r)) t
       → Run ans next s (l ++ (x ∷ k)) t
   unfolding Run
   run-change-rest s l x r k t f run =
       let both = run-split s l (x ∷ r) t run in
-      run-join s l (x ∷ k) (after next s (map stepOf l)) t (both .0) (both .1 .0, f (both .1 .1))
+      run-join s l (x ∷ k) (after next s (map stepIn l)) t (both .0) (both .1 .0, f (both .1 .1))

@@ -38,14 +38,14 @@ moved homeB (control h gap h′ ∷ l) = gap ++ (h ∷ h′ ∷ moved homeB l)
 moved homeB (event h gap h′ ∷ l) = passing homeB gap ++ (h ∷ h′ ∷ (failing homeB gap ++ moved homeB l))
 
 -- the step of a pair of step and answer, and the items without their answers
-abbrev pub stepOf : {X A : Type 0} → X × A → X
-stepOf p = p .0
+abbrev pub stepIn : {X A : Type 0} → X × A → X
+stepIn p = p .0
 
 unfoldable pub stepsOf : {X A : Type 0} → List (Item (X × A)) → List (Item X)
 stepsOf [] = []
-stepsOf (one x ∷ l) = one (stepOf x) ∷ stepsOf l
-stepsOf (control h gap h′ ∷ l) = control (stepOf h) (map stepOf gap) (stepOf h′) ∷ stepsOf l
-stepsOf (event h gap h′ ∷ l) = event (stepOf h) (map stepOf gap) (stepOf h′) ∷ stepsOf l
+stepsOf (one x ∷ l) = one (stepIn x) ∷ stepsOf l
+stepsOf (control h gap h′ ∷ l) = control (stepIn h) (map stepIn gap) (stepIn h′) ∷ stepsOf l
+stepsOf (event h gap h′ ∷ l) = event (stepIn h) (map stepIn gap) (stepIn h′) ∷ stepsOf l
 
 -- P of each element
 unfoldable pub Every : {Y : Type 0} → (Y → Type 0) → List Y → Type 0
@@ -55,7 +55,7 @@ Every P (x ∷ l) = P x × Every P l
 -- "Every step gives the same number and value .. and both end in the same machine": from s each step gives the answer paired with it, and the end is t
 unfoldable pub Run : {S X A : Type 0} → (S → X → A) → (S → X → S) → S → List (X × A) → S → Type 0
 Run ans next s [] t = s ≡ t
-Run ans next s (x ∷ l) t = (ans s (stepOf x) ≡ x .1) × Run ans next (next s (stepOf x)) l t
+Run ans next s (x ∷ l) t = (ans s (stepIn x) ≡ x .1) × Run ans next (next s (stepIn x)) l t
 
 -- "Each step gets the machine that the last one left": the state after the steps
 unfoldable pub after : {S X : Type 0} → (S → X → S) → S → List X → S

@@ -5,7 +5,7 @@ use mathlib.Core.Bool.{false}
 use mathlib.Core.Path.{_≡_, refl, subst}
 use Prim.Native.Nat.{ℕ}
 use native.Mathlib.Omega.{arith}
-use Rattle.runs.specs.Items.{Item, one, control, event, original, moved, stepOf as stepIn, stepsOf, Every, Run, Awake}
+use Rattle.runs.specs.Items.{Item, one, control, event, original, moved, stepIn, stepsOf, Every, Run, Awake}
 use Rattle.machine.specs.SetUp.{setUpOf}
 use Rattle.machine.specs.declared.Machine.{Machine}
 use Rattle.model.specs.Step.{answerTo, after, stepOf}
