@@ -31,6 +31,10 @@ or-over-and a b c = same-digits _ _ (λ i. simp (digit-and, digit-or) (omega ari
 pub masked-or : (a b m : ℕ) → bitAnd (bitOr a b) m ≡ bitOr (bitAnd a m) (bitAnd b m)
 masked-or a b m = same-digits _ _ (λ i. simp (digit-and, digit-or) (omega arith))
 
+-- a mask twice is the mask once
+pub masked-twice : (a m : ℕ) → bitAnd (bitAnd a m) m ≡ bitAnd a m
+masked-twice a m = same-digits _ _ (λ i. simp digit-and (omega arith))
+
 pub and-absorbs-or : (a b : ℕ) → bitAnd a (bitOr a b) ≡ a
 and-absorbs-or a b = same-digits _ _ (λ i. simp (digit-and, digit-or) (omega arith))
 

@@ -2,10 +2,9 @@
 use mathlib.Core.Bool.{Bool, true, false, cond}
 use mathlib.Core.Path.{_≡_, refl, sym, _∙_, ap, ap₂}
 use Prim.Native.Nat.{ℕ, _+_, _-_, _%_, _^_, _≤_, _<_}
-use native.Mathlib.Nat.{mod-lt}
 use native.Mathlib.Omega.{arith}
 use borrow.Author.Tests.{eqb-true, ltb-true, not-false}
-use lib.Dec.{eqb, ltb, lit<}
+use lib.Dec.{eqb}
 use Rattle.lists.specs.Any.{any}
 use Rattle.lists.proofs.Tests.{or-left}
 use Rattle.platform.specs.declared.settings.Settings.{Settings}
@@ -14,7 +13,7 @@ use Rattle.machine.specs.declared.Machine.{Machine}
 use Rattle.machine.specs.Fields.{withGpe}
 use Rattle.model.specs.Answer.{firstApplying}
 use Rattle.model.specs.Bus.{dataTooWide, namesNone, gpeWritten, writeOf}
-use Rattle.model.specs.Step.{registerOf, offsetOf, writeLines, answerTo, accepted, after, stepOf}
+use Rattle.model.specs.Step.{registerOf, offsetOf, writeLines, answerTo, accepted, stepOf}
 use Rattle.model.specs.declared.Access.{Access}
 use Rattle.model.specs.declared.Answer.{Answer}
 use Rattle.model.specs.declared.Answer.the-variants as answer
@@ -22,7 +21,6 @@ use Rattle.model.specs.declared.Register.{Register}
 use Rattle.model.specs.declared.Step.the-variants as step
 use Rattle.model.specs.declared.Stepped.{Stepped}
 use Rattle.model.proofs.Steps.{zero-exactly, accepted-does, refused-stays}
-use Rattle.model.proofs.Ticks.{cond-same}
 use Rattle.bus.specs.Cells.{gpeCell}
 
 -- a GPE cell below 256 is a status byte, and one from 256 on an enable byte
@@ -121,8 +119,3 @@ module _ (m : Machine) (a : Access) (written : ℕ) (r : Register) (offset : ℕ
   write-refused p q e t =
       let same = answered p q e in
       ap₂ stepped same (sym (refused-stays m (step.Write a written) (ap accepted (sym same) ∙ t)))
-
--- a read leaves the machine as it was
-pub read-stays : (m : Machine) (a : Access) → after m (step.Read a) ≡ m
-unfolding after
-read-stays m a = cond-same (accepted (answerTo m (step.Read a))) m

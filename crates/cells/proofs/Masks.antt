@@ -1,12 +1,10 @@
 -- The rule of the cell table: bit i of a mask is set exactly if some row that counts has bit i. And the four masks that document 01 names.
 -- By digits: or takes the larger digit, and a row's bit has the one digit. Assumes nothing.
-use Prim.Native.Nat.{ℕ, _<_, _≤_, _+_, _^_, max}
-use mathlib.Core.Bool.{Bool, true, false, cond, _&&_, _||_}
+use Prim.Native.Nat.{ℕ, _<_, _+_, _^_, max}
+use mathlib.Core.Bool.{Bool, true, false, _&&_, _||_}
 use mathlib.Core.Path.{_≡_, refl, sym, _∙_, ap₂}
 use mathlib.Core.List.{List, [], _∷_}
-use native.Mathlib.Omega.{arith}
 use borrow.Author.Tests.{eqb-true, eqb-false, lt-ltb}
-use lib.Bits.{bitOr}
 use lib.Dec.{eqb, ltb}
 use Rattle.lists.specs.Any.{any}
 use Rattle.bits.specs.Digit.{digit}

@@ -7,7 +7,7 @@ use Prim.Native.Nat.{ℕ}
 use borrow.Author.Tests.{ne-eqb}
 use Rattle.lists.specs.Any.{any}
 use Rattle.lists.proofs.Search.{any-drop}
-use Rattle.platform.specs.Answer.{answerNumber, firstFailing}
+use Rattle.platform.specs.Answer.{answerNumber}
 use Rattle.platform.specs.Blocks.{present}
 use Rattle.platform.specs.Legal.{legalSettings, HasNone, Guaranteed}
 use Rattle.platform.specs.declared.settings.Settings.{Settings}

@@ -1,3 +1,4 @@
 pub mod Accepted
 pub mod AnyEnabled
 pub mod Names
+pub mod ByteAlone

@@ -1,5 +1,5 @@
 -- The status bits by name are the table's, row by row. (That 0721 hex is the table's event column is `event-bits` of `cells`.) Assumes nothing.
-use mathlib.Core.List.{List, [], _∷_, map}
+use mathlib.Core.List.{map}
 use mathlib.Core.Path.{_≡_, refl}
 use Prim.Native.Nat.{ℕ, _^_}
 use Rattle.cells.specs.Cells.{cells}

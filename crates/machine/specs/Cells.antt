@@ -91,8 +91,10 @@ onesIn m b width offset written = bitAnd (placed offset written) (bitAnd (status
 
 -- "Writing one to a status bit clears it; writing zero keeps it."
 abbrev pub statusCleared : Machine → Bool → ℕ → ℕ → ℕ → ℕ
-statusCleared m b width offset written = kept 16 (m .«pm1_sts») (onesIn m b width offset written)
+statusCleared m b width offset written =
+    clearedBy 16 (m .«pm1_sts») (placed offset written) (bitAnd (statusIn (m .settings) b) (covered width offset))
 
+-- .. at an offset of the status half; elsewhere the status is kept
 unfoldable pub statusAfter : Machine → Bool → ℕ → ℕ → ℕ → ℕ
 statusAfter m b width offset written = cond (inStatus offset) (statusCleared m b width offset written) (m .«pm1_sts»)
 
@@ -101,6 +103,7 @@ abbrev pub enableTaken : Machine → Bool → ℕ → ℕ → ℕ → ℕ
 enableTaken m b width offset written =
     takenBy 16 (m .«pm1_en») (placed offset written) (bitAnd (enableIn (m .settings) b) (covered width offset))
 
+-- .. at an offset of the enable half
 unfoldable pub enableAfter : Machine → Bool → ℕ → ℕ → ℕ → ℕ
 enableAfter m b width offset written = cond (inStatus offset) (m .«pm1_en») (enableTaken m b width offset written)
 
@@ -110,6 +113,7 @@ enableAfter m b width offset written = cond (inStatus offset) (m .«pm1_en») (e
 unfoldable pub controlIn : Settings → Bool → ℕ → Bool
 controlIn s b bit = hasBit (homesIn (s .«control_homes») b) (2 ^ bit)
 
+-- a bit that reads one where the test holds
 abbrev pub bitWhen : Bool → ℕ → ℕ
 bitWhen test bit = cond test (2 ^ bit) 0
 
@@ -117,6 +121,7 @@ bitWhen test bit = cond test (2 ^ bit) 0
 abbrev pub hasPm1bCnt : Settings → Bool
 hasPm1bCnt s = present (s .«pm1b_cnt»)
 
+-- "10 to 12 SLP_TYP in both blocks": each its own
 abbrev pub slpTyp : Machine → Bool → ℕ
 slpTyp m b = cond b (m .«slp_typ_b») (m .«slp_typ_a»)
 
@@ -148,6 +153,7 @@ gpeSts m b = cond b (m .«gpe1_sts») (m .«gpe0_sts»)
 abbrev pub gpeEn : Machine → Bool → List ℕ
 gpeEn m b = cond b (m .«gpe1_en») (m .«gpe0_en»)
 
+-- the offset is one of the status bytes
 unfoldable pub inGpeStatus : Settings → Bool → ℕ → Bool
 inGpeStatus s b offset = ltb offset (gpeHalf s b)
 

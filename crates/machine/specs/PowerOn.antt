@@ -1,5 +1,5 @@
 -- "Power-on: every cell, the counter and hold zero, no release flag, no command, disarmed, state S0, button up, SCI_EN set exactly if SMI_CMD is zero."
-use mathlib.Core.Bool.{Bool, true, false}
+use mathlib.Core.Bool.{Bool, false}
 use mathlib.Core.List.{List, [], _∷_}
 use Prim.Native.Nat.{ℕ, _/_}
 use lib.Dec.{eqb}

@@ -1,9 +1,8 @@
 -- Sleep and wake.
-use mathlib.Core.Bool.{Bool, true, false, not, cond, _&&_, _||_}
-use mathlib.Core.List.{List}
+use mathlib.Core.Bool.{Bool, false, not, cond, _&&_, _||_}
 use Prim.Native.Nat.{ℕ, _+_}
 use lib.Bits.{bitAnd, bitOr}
-use lib.Dec.{eqb, ltb, leb}
+use lib.Dec.{eqb, leb}
 use Rattle.cells.specs.Cells.{flagOf}
 use Rattle.bits.specs.Cell.{kept}
 use Rattle.machine.specs.PowerOn.{noBytes}

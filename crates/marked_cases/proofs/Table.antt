@@ -68,4 +68,4 @@ rows-accepted =
     (more false refl
     (more false refl (more false refl (more false refl (more false refl
     (more true refl
-    (more false refl (more false refl (more false refl (more false refl none))))))))))))))
+    (more false refl (more false refl (more false refl (more false refl (more false refl none)))))))))))))))

@@ -67,6 +67,11 @@ infixl 70 _gives_
 abbrev _gives_ : Step → ℕ → Expected
 s gives value = record { step = s; number = 0; value = value }
 
+-- refused, with the number
+infixl 70 _refused_
+abbrev _refused_ : Step → ℕ → Expected
+s refused number = record { step = s; number = number; value = 0 }
+
 -- a port and a width, and the value written
 abbrev read : ℕ → ℕ → Step
 read port width = step.Read (record { port = port; width = width })
@@ -129,4 +134,6 @@ rows =
     -- .. and from a press on
     row narrow (step.Event event.Press gives 0 ∷ step.Event (event.Ticks 14318179) gives 0 ∷ step.Event (event.Ticks 1) gives 0 ∷ [])
     (left 0x0001 0 14318180 14318180 5) ∷
+    -- "Port 65,536: 23"
+    row allSet (read 0x10000 2 refused 23 ∷ write 0x10000 1 0xFF refused 23 ∷ []) (left 0xC731 0 0 0 0) ∷
     []

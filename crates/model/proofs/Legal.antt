@@ -35,7 +35,7 @@ use Rattle.model.specs.declared.Step.{Step}
 use Rattle.model.proofs.Bytes.{Bytes, bytes-mean, mean-bytes, no-bytes, bytes-with-bit, even-length, status-written, enable-written}
 use Rattle.model.proofs.Fitted.{zero-within, or-within, part-within, wak-within}
 use Rattle.model.proofs.Kept.{ticked, overriddenBy, Keeps, kept-by-steps}
-use Rattle.model.proofs.LinesExactly.{awake-exactly}
+use Rattle.model.proofs.LinesExactly.{awake-exactly, both}
 use Rattle.model.proofs.Steps.{settings-kept}
 
 -- ---- tests
@@ -47,9 +47,6 @@ only-if false b e h = absurd (false≢true h)
 pub only-of : (a b : Bool) → (a ≡ true → b ≡ true) → onlyIf a b ≡ true
 only-of true b h = h refl
 only-of false b h = refl
-
-both : (a b : Bool) → a ≡ true → b ≡ true → (a && b) ≡ true
-both a b p q = rw (p, q) refl
 
 parts : (a b : Bool) → (a && b) ≡ true → (a ≡ true) × (b ≡ true)
 parts a b e = (and-left a b e, and-right a b e)

@@ -7,3 +7,4 @@ pub mod Fitted
 pub mod Kept
 pub mod Bytes
 pub mod Legal
+pub mod Wakes

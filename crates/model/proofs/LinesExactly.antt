@@ -1,7 +1,7 @@
 -- When SCI and SMI are up, bit by bit. An and of two numbers is zero exactly if no bit is set in both, and the mask 0721 hex has the
 -- bits 0, 5, 8, 9 and 10.
 -- Assumes nothing.
-use Prim.Native.Nat.{ℕ, zero, suc, _/_, _%_, _^_, _<_, min}
+use Prim.Native.Nat.{ℕ, zero, suc, _/_, _%_, min}
 use mathlib.Core.Path.{_≡_, refl, sym, _∙_, ap}
 use mathlib.Core.Logic.{_↔_, _⊎_, inl, inr, ⊎-map}
 use mathlib.Core.Bool.{Bool, true, false, not, _&&_, _||_, or-true, false≢true}
@@ -14,7 +14,7 @@ use lib.Dec.{eqb}
 use lib.ListN.{getD}
 use Rattle.lists.proofs.Tests.{and-left, and-right}
 use Rattle.bits.specs.Digit.{digit}
-use Rattle.bits.proofs.Digits.{digit-le, digit-zero, digit-and, digit-beyond, below-or-beyond}
+use Rattle.bits.proofs.Digits.{digit-le, digit-zero, digit-and}
 use Rattle.bits.proofs.Algebra.{disjoint-digit}
 use Rattle.machine.specs.declared.Machine.{Machine}
 use Rattle.machine.specs.Cells.{hasBit, gpeSts, gpeEn}
@@ -69,7 +69,7 @@ some-digit =
         let found = rest (λ z. n (omega arith)) in
         (suc (found .0), found .1)
 
-both-set : (j x y : ℕ) → (digit j (bitAnd x y) ≡ 1) ↔ BothSet j x y
+pub both-set : (j x y : ℕ) → (digit j (bitAnd x y) ≡ 1) ↔ BothSet j x y
 both-set j x y = (there, λ p. rw (digit-and, p .0, p .1))
   where
     there : digit j (bitAnd x y) ≡ 1 → BothSet j x y
@@ -86,10 +86,6 @@ has-bit-exactly x y = (there, λ p. ap not (ne-eqb (bitAnd x y) 0 (λ z. omega (
     there e =
         let found = some-digit (bitAnd x y) (eqb-false _ _ (not-true _ e)) in
         (found .0, both-set (found .0) x y .0 (found .1))
-
--- a byte has no bit from 8 on
-pub byte-bit : (j status enable : ℕ) → status < 2 ^ 8 → BothSet j status enable → j < 8
-byte-bit j status enable h p = below-or-beyond j 8 (λ l. l) (λ l. absurd (omega (arith, digit-beyond 8 j status h l, p .0)))
 
 -- ---- PM1
 
@@ -130,17 +126,17 @@ module _ (m : Machine) where
 
 -- ---- tests joined
 
-either : (t u : Bool) → (t || u) ≡ true → (t ≡ true) ⊎ (u ≡ true)
+pub either : (t u : Bool) → (t || u) ≡ true → (t ≡ true) ⊎ (u ≡ true)
 either true u e = inl refl
 either false u e = inr e
 
-or-first : (t u : Bool) → t ≡ true → (t || u) ≡ true
+pub or-first : (t u : Bool) → t ≡ true → (t || u) ≡ true
 or-first t u e = rw e
 
-or-second : (t u : Bool) → u ≡ true → (t || u) ≡ true
+pub or-second : (t u : Bool) → u ≡ true → (t || u) ≡ true
 or-second t u e = rw (e, or-true t)
 
-both : (t u : Bool) → t ≡ true → u ≡ true → (t && u) ≡ true
+pub both : (t u : Bool) → t ≡ true → u ≡ true → (t && u) ≡ true
 both t u p q = rw (p, q)
 
 -- ---- general events
@@ -182,10 +178,6 @@ module _ (m : Machine) where
 
   pub gpe-exactly : (gpeEvent m ≡ true) ↔ GpePair m
   gpe-exactly = (gpe-found, λ p. gpe-set (p .0) (p .1))
-
-  -- a byte's bit is below 8
-  pub gpe-bit-below-8 : ((b : Bool) (i : ℕ) → getD (gpeSts m b) i 0 < 2 ^ 8) → (p : GpePair m) → p .1 .1 < 8
-  gpe-bit-below-8 bytes p = byte-bit (p .1 .1) (getD (gpeSts m (p .0)) (p .1 .0) 0) (getD (gpeEn m (p .0)) (p .1 .0) 0) (bytes (p .0) (p .1 .0)) (p .1 .2)
 
   -- ---- the lines
 

@@ -26,7 +26,7 @@ use Rattle.machine.specs.declared.Machine.{Machine}
 use Rattle.model.specs.Answer.{firstApplying}
 use Rattle.model.specs.Bus.{completes, namedState, controlled, controlWritten, gpeWritten, writeOf}
 use Rattle.machine.specs.Cells.{tmrBit, bmBit, gblBit, pwrbtnBit, slpbtnBit, rtcBit, pciexpWakeBit, wakBit, hasBit, laneAt, placed, covered, statusIn, inStatus, onesIn, statusAfter, gpeSts, inGpeStatus, gpeStsAfter}
-use Rattle.model.specs.Events.{fits, raised, inS5, pressOf, signalWakes, signalOf, pcieWakes, pcieWakeOf, inGpe0, inGpe1, numberIn, withBit, generalRaised, generalEnabled, generalOf, clockAfter, tmrRaised, timed, ticksOf, eventOf}
+use Rattle.model.specs.Events.{fits, raised, inS5, pressOf, signalWakes, signalOf, pcieWakeOf, inGpe0, inGpe1, numberIn, withBit, generalRaised, generalEnabled, generalOf, clockAfter, tmrRaised, timed, ticksOf, eventOf}
 use Rattle.machine.specs.Fields.{withTime, enter}
 use Rattle.machine.specs.Lines.{awake}
 use Rattle.model.specs.Raises.{Change, unchanged, clearing, raising, bitsIf, wakIf, pressChange, signalChange, pcieWakeChange, ticksChange, eventChange, wakesAtOnce, writeChange, ruleChange, ifAccepted, raises, clears, liesIn, generalBit, gpeEventChange, gpeOnes, gpeRuleChange, gpeRaises, gpeClears}
@@ -299,7 +299,7 @@ cleared-byte xs j i written h t u p q = stored-byte xs j i _ t u p q ∙ go t u 
     go true false p q = rw (List·getD-eq-default xs 0 (ltb-false i (length xs) q)) (sym (and-zero-l (2 ^ 8 - 1 - bitAnd written 255)))
     go false u p q = sym (none-cleared 8 (getD xs i 0) h)
 
-no-byte : (n i : ℕ) → _≡_ {A = ℕ} (getD (replicate n 0) i 0) 0
+pub no-byte : (n i : ℕ) → _≡_ {A = ℕ} (getD (replicate n 0) i 0) 0
 no-byte zero i = refl
 no-byte (suc n) zero = refl
 no-byte (suc n) (suc i) = no-byte n i

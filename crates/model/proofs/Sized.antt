@@ -2,14 +2,14 @@
 -- Assumes nothing.
 use mathlib.Core.Bool.{Bool, true, false, not, cond, _&&_}
 use mathlib.Core.List.{List}
-use mathlib.Core.Path.{_≡_, refl, sym, _∙_, ap}
+use mathlib.Core.Path.{_≡_, refl, _∙_}
 use Prim.Native.Nat.{ℕ}
 use lib.ListN.{length, length-set}
 use Rattle.machine.specs.Cells.{hasBit, pciexpWakeBit, slpbtnBit, rtcBit, gpeSts, inGpeStatus, gpeStsAfter}
 use Rattle.machine.specs.Fields.{enter}
 use Rattle.machine.specs.Lines.{awake}
 use Rattle.machine.specs.PowerOn.{gpeBytes}
-use Rattle.machine.specs.Sleep.{isSleeping, woken, wokenIf, pending, completed, restarted, overridden}
+use Rattle.machine.specs.Sleep.{isSleeping, woken, wokenIf, pending, completed, restarted}
 use Rattle.machine.specs.declared.Machine.{Machine}
 use Rattle.model.specs.Bus.{completes, controlled, namedState, writeOf}
 use Rattle.model.specs.Events.{raised, inS5, pressOf, signalOf, pcieWakeOf, inGpe0, numberIn, withBit, generalRaised, generalEnabled, generalOf, clockAfter, timed, ticksOf, eventOf}

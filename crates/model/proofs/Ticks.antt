@@ -3,12 +3,12 @@
 -- Assumes nothing.
 use Prim.Native.Nat.{ℕ, zero, suc, _+_, _≤_, _<_}
 use mathlib.Core.Path.{_≡_, refl, sym, _∙_, ap}
-use mathlib.Core.Bool.{Bool, true, false, not, cond, _&&_, and-false, false≢true}
+use mathlib.Core.Bool.{Bool, true, false, not, cond, _&&_, and-false}
 use native.Mathlib.Nat.{zero-add, suc-add}
 use native.Mathlib.Omega.{arith}
 use borrow.Author.Tests.{eqb-true, eqb-false, eq-eqb, ne-eqb, lt-leb, le-leb}
 use lib.Bits.{bitOr, or-zero-l, or-zero-r, or-self}
-use lib.Dec.{eqb, leb, lit<, lit≤}
+use lib.Dec.{eqb, leb}
 use Rattle.bits.proofs.Algebra.{or-assoc}
 use Rattle.clock.specs.AtOnce.{overridden as overriddenIn, ranOf, counterAfter, afterOf}
 use Rattle.clock.specs.Clock.{counterBits, holdLimit, tickOf, ticksOf as clockTicks}
@@ -18,7 +18,7 @@ use Rattle.machine.specs.declared.Machine.{Machine}
 use Rattle.platform.specs.Cells.{wideTimer}
 use Rattle.platform.specs.declared.settings.Settings.{Settings}
 use Rattle.machine.specs.Cells.{tmrBit}
-use Rattle.model.specs.Events.{fits, raised, clockOf, clockAfter, tmrRaised, timed, tickedOnce, ticksOf}
+use Rattle.model.specs.Events.{fits, clockOf, clockAfter, tmrRaised, timed, tickedOnce, ticksOf}
 use Rattle.machine.specs.Fields.{withEvent, withTime}
 use Rattle.machine.specs.Lines.{awake}
 use Rattle.machine.specs.Sleep.{overridden}
@@ -166,20 +166,6 @@ module _ (n : ℕ) (m : Machine) where
         ≡ counterAfter (counterBits (wideTimer (m .settings))) (m .counter) (ranOf (m .button) (m .settings .«power_override») (m .hold) n)
     ticks-counter = rw (ticks-awake n m up, timed-counter, clock-closed-form)
 
-timed-awake-end : (m : Machine) (t : Clock) (off : Bool) → t .off ≡ off → awake (timed m t) ≡ true
-    → (t .off ≡ false) × (timed m t ≡ withTime (raised m (tmrRaised (m .settings) (t .turns))) (t .counter) (t .hold))
-unfolding timed awake
-timed-awake-end m t true e end = absurd (false≢true (rw e at end))
-timed-awake-end m t false e end = (e, rw e)
-
--- still awake: no override, and the machine has the clock's counter, hold and TMR
-pub ticks-awake-end : (n : ℕ) (m : Machine)
-    → awake m ≡ true
-    → awake (ticksOf n m) ≡ true
-    → (clockAfter m n .off ≡ false)
-    × (ticksOf n m ≡ withTime (raised m (tmrRaised (m .settings) (clockAfter m n .turns))) (clockAfter m n .counter) (clockAfter m n .hold))
-ticks-awake-end n m up end = rw (ticks-awake n m up) (timed-awake-end m (clockAfter m n) _ refl (rw (ticks-awake n m up) at end))
-
 -- ---- from a press
 
 module _ (m : Machine) (up : awake m ≡ true) (start : m .hold ≡ 0) (down : m .button ≡ true) (fitted : m .settings .«power_override» ≡ true) where
@@ -193,9 +179,3 @@ module _ (m : Machine) (up : awake m ≡ true) (start : m .hold ≡ 0) (down : m
 
   pub held-from-limit : (n : ℕ) → holdLimit ≤ n → ticksOf n m .state ≡ 5
   held-from-limit n l = rw (held-state n, le-leb holdLimit n l)
-
-  pub held-14318179-ticks : ticksOf 14318179 m .state ≡ 0
-  held-14318179-ticks = held-below-limit 14318179 (lit< tt)
-
-  pub held-one-tick-more : ticksOf 1 (ticksOf 14318179 m) .state ≡ 5
-  held-one-tick-more = rw (← ticks-add 14318179 1 m) (held-from-limit 14318180 (lit≤ tt))

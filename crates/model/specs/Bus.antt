@@ -1,10 +1,10 @@
 -- Bus accesses: which are refused, what a read gives and what a write does.
 use mathlib.Core.Bool.{Bool, true, false, not, cond, _&&_, _||_}
-use Prim.Native.Nat.{ℕ, _+_, _/_, _%_, _^_}
+use Prim.Native.Nat.{ℕ, _/_, _%_, _^_}
 use lib.Dec.{eqb, ltb}
 use Rattle.sleep.specs.Pairs.{stateOf}
 use Rattle.machine.specs.declared.Machine.{Machine}
-use Rattle.machine.specs.Cells.{shown, placed, eventRegister, statusAfter, enableAfter, controlIn, hasPm1bCnt, controlRegister, coversLow, coversHigh, writtenBit, gpeSts, gpeEn, gpeByte, gpeStsAfter, gpeEnAfter}
+use Rattle.machine.specs.Cells.{shown, placed, eventRegister, statusAfter, enableAfter, controlIn, hasPm1bCnt, controlRegister, coversLow, coversHigh, writtenBit, gpeByte, gpeStsAfter, gpeEnAfter}
 use Rattle.machine.specs.Fields.{withEvent, withGpe, withControl, withCommand, withArbDis}
 use Rattle.machine.specs.Sleep.{completed}
 use Rattle.model.specs.declared.Register.{Register}
@@ -123,6 +123,7 @@ controlled m b width offset written =
     withControl m (bmRldAfter m b width offset written) (gblRlsAfter m b width offset written)
     (typAfter m b false width offset written) (typAfter m b true width offset written) (armedAfter m b width offset written)
 
+-- .. and with the sleep that it completes
 abbrev pub controlWritten : Machine → Bool → ℕ → ℕ → ℕ → Machine
 controlWritten m b width offset written =
     cond (completes m b width offset written)
@@ -131,6 +132,7 @@ controlWritten m b width offset written =
 
 -- ---- the other writes
 
+-- a byte of GPE0, or of GPE1, is written
 abbrev pub gpeWritten : Machine → Bool → ℕ → ℕ → Machine
 gpeWritten m false offset written = withGpe m (gpeStsAfter m false offset written) (gpeEnAfter m false offset written) (m .«gpe1_sts») (m .«gpe1_en»)
 gpeWritten m true offset written = withGpe m (m .«gpe0_sts») (m .«gpe0_en») (gpeStsAfter m true offset written) (gpeEnAfter m true offset written)

@@ -1,20 +1,18 @@
 -- Buttons, alarm, wake, bus master, global lock, general events and ticks.
-use mathlib.Core.Bool.{Bool, true, false, not, cond, _&&_, _||_}
+use mathlib.Core.Bool.{Bool, true, false, not, cond, _&&_}
 use mathlib.Core.List.{List}
-use Prim.Native.Nat.{ℕ, zero, suc, _+_, _-_, _/_, _%_, _^_}
-use lib.Bits.{bitAnd, bitOr}
+use Prim.Native.Nat.{ℕ, zero, suc, _-_, _/_, _%_, _^_}
+use lib.Bits.{bitOr}
 use lib.Dec.{eqb, ltb, leb}
 use lib.ListN.{getD, set}
-use Rattle.cells.specs.Cells.{flagOf}
 use Rattle.clock.specs.Clock.{tickOf, startOf, ticksOf as clockTicks}
 use Rattle.clock.specs.declared.Clock.{Clock}
-use Rattle.platform.specs.Blocks.{present}
 use Rattle.platform.specs.Cells.{statusCells, wideTimer}
 use Rattle.platform.specs.Rules.{eventCount}
 use Rattle.platform.specs.declared.settings.Settings.{Settings}
 use Rattle.machine.specs.declared.Machine.{Machine}
-use Rattle.machine.specs.Cells.{tmrBit, bmBit, gblBit, pwrbtnBit, slpbtnBit, rtcBit, pciexpWakeBit, hasBit, gpeSts, gpeEn}
-use Rattle.machine.specs.Fields.{withEvent, withGpe, withButton, withTime, enter}
+use Rattle.machine.specs.Cells.{tmrBit, bmBit, gblBit, pwrbtnBit, slpbtnBit, rtcBit, pciexpWakeBit, hasBit}
+use Rattle.machine.specs.Fields.{withEvent, withGpe, withButton, withTime}
 use Rattle.machine.specs.Lines.{awake}
 use Rattle.machine.specs.Sleep.{isSleeping, wakeBits, wokenIf, restarted, overridden}
 use Rattle.model.specs.declared.Event.{Event}
@@ -79,6 +77,7 @@ withBit xs k = set xs (k / 8) (bitOr (getD xs (k / 8) 0) (2 ^ (k % 8)))
 abbrev pub isEnabled : List ℕ → ℕ → Bool
 isEnabled xs k = hasBit (getD xs (k / 8) 0) (2 ^ (k % 8))
 
+-- ".. general events set their bits": of GPE0, or else of GPE1
 unfoldable pub generalRaised : Machine → ℕ → Machine
 generalRaised m k =
     withGpe m
@@ -87,9 +86,11 @@ generalRaised m k =
     (cond (inGpe0 (m .settings) k) (m .«gpe1_sts») (withBit (m .«gpe1_sts») (numberIn (m .settings) k)))
     (m .«gpe1_en»)
 
+-- "general event if enabled"
 unfoldable pub generalEnabled : Machine → ℕ → Bool
 generalEnabled m k = cond (inGpe0 (m .settings) k) (isEnabled (m .«gpe0_en») k) (isEnabled (m .«gpe1_en») (numberIn (m .settings) k))
 
+-- "In S5 .. other accepted events change nothing"
 unfoldable pub generalOf : Machine → ℕ → Machine
 generalOf m k = cond (inS5 m) m (wokenIf (generalEnabled m k) (generalRaised m k))
 

@@ -19,7 +19,6 @@ ghost use Rattle.machine.specs.Cells.{
   placed,
   statusRegister,
   enableRegister,
-  onesIn,
   statusCleared,
   enableTaken,
   controlIn,
@@ -114,20 +113,13 @@ pub fn enable_register(m: Machine, b: bool) -> u16
     m.pm1_en & enable_in(s, b)
 }
 
-// The ones written to fitted status bits that live in the block.
-fn ones_in(m: Machine, b: bool, width: u32, offset: u64, written: u32) -> u16
-    ensures { λ r. ⌜ r ≡ onesIn m b width offset written ⌝ }
-{
-    let s = m.settings;
-    placed_in(offset, written, status_in(s, b) & covered(width, offset))
-}
-
 // Writing one to a status bit clears it; writing zero keeps it.
 pub fn status_cleared(m: Machine, b: bool, width: u32, offset: u64, written: u32) -> u16
     ensures { λ r. ⌜ r ≡ statusCleared m b width offset written ⌝ }
 {
-    let ones = ones_in(m, b, width, offset, written);
-    m.pm1_sts & !ones
+    let s = m.settings;
+    let mask = status_in(s, b) & covered(width, offset);
+    bits::clear16(m.pm1_sts, placed_in(offset, written, mask), mask)
 }
 
 // An enable bit takes the value written.
@@ -136,7 +128,7 @@ pub fn enable_taken(m: Machine, b: bool, width: u32, offset: u64, written: u32) 
 {
     let s = m.settings;
     let mask = enable_in(s, b) & covered(width, offset);
-    (m.pm1_en & !mask) | placed_in(offset, written, mask)
+    bits::take16(m.pm1_en, placed_in(offset, written, mask), mask)
 }
 
 // A control bit, 0 SCI_EN, 1 BM_RLD or 2 GBL_RLS, lives in the block.

@@ -1,11 +1,10 @@
 -- Two steps in either order: two events of which one is quiet, and an event and a half access. Same answers, same machine.
 -- An event raises bits that the half neither shows nor clears, and changes nothing else that the half looks at. Assumes nothing.
-use mathlib.Core.Bool.{Bool, true, false, not, cond, _&&_, _||_}
-use mathlib.Core.List.{List, [], _∷_}
-use mathlib.Core.Path.{_≡_, refl, sym, _∙_, ap}
-use Prim.Native.Nat.{ℕ, _<_, _^_, _-_}
-use lib.Bits.{bitAnd, bitOr}
-use lib.Dec.{eqb}
+use mathlib.Core.Bool.{false}
+use mathlib.Core.List.{List}
+use mathlib.Core.Path.{_≡_, refl, sym, _∙_}
+use Prim.Native.Nat.{ℕ}
+use lib.Bits.{bitOr}
 use Rattle.bits.proofs.Algebra.{or-swap}
 use Rattle.runs.proofs.Runs.{Commute}
 use Rattle.platform.specs.declared.settings.Settings.{Settings}
@@ -14,9 +13,8 @@ use Rattle.machine.specs.Fields.{withEvent, withGpe}
 use Rattle.model.specs.Step.{answerTo, after}
 use Rattle.model.specs.declared.Answer.{Answer}
 use Rattle.model.specs.declared.Event.{Event}
-use Rattle.model.specs.declared.Step.{Step}
 use Rattle.model.specs.declared.Step.the-variants as step
-use Rattle.split_access.proofs.Effects.{Effect, affected, effectOf, Affects, On, event-affects}
+use Rattle.split_access.proofs.Effects.{Effect, affected, effectOf, On, event-affects}
 
 -- ---- two events
 

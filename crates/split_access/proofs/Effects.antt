@@ -1,25 +1,24 @@
 -- What an event does to an awake machine that it leaves awake: it raises status bits, and changes the button, hold, the counter and the
 -- general status bytes, each by what stands there and in the settings alone. By cases over the events. Assumes nothing.
 use mathlib.Core.Bool.{Bool, true, false, not, cond, _&&_, _||_}
-use mathlib.Core.List.{List, [], _∷_}
+use mathlib.Core.List.{List}
 use mathlib.Core.Path.{_≡_, refl, sym, _∙_, ap}
 use Prim.Native.Nat.{ℕ}
 use native.Mathlib.Omega.{arith}
-use lib.Bits.{bitOr, or-zero-r}
-use lib.Dec.{eqb}
+use lib.Bits.{or-zero-r}
 use Rattle.clock.specs.Clock.{startOf}
 use Rattle.clock.specs.Clock as clock
 use Rattle.clock.specs.declared.Clock.{Clock}
 use Rattle.platform.specs.Cells.{wideTimer}
 use Rattle.platform.specs.declared.settings.Settings.{Settings}
 use Rattle.machine.specs.declared.Machine.{Machine}
-use Rattle.model.specs.Answer.{numberOf, firstApplying}
+use Rattle.model.specs.Answer.{firstApplying}
 use Rattle.machine.specs.Cells.{pwrbtnBit, slpbtnBit, rtcBit, pciexpWakeBit, bmBit, gblBit}
 use Rattle.model.specs.Events.{fits, raised, pressOf, signalOf, pcieWakeOf, generalOf, generalRaised, inGpe0, inGpe1, withBit, numberIn, inS5, tmrRaised, timed, ticksOf, eventOf}
-use Rattle.machine.specs.Fields.{withEvent, withGpe, withButton, withTime}
+use Rattle.machine.specs.Fields.{withGpe, withButton, withTime}
 use Rattle.machine.specs.Lines.{awake}
-use Rattle.machine.specs.Sleep.{isSleeping, wokenIf}
-use Rattle.model.specs.Step.{answerTo, after, eventLines, accepted}
+use Rattle.machine.specs.Sleep.{isSleeping}
+use Rattle.model.specs.Step.{answerTo, after}
 use Rattle.model.proofs.Ticks.{ticks-awake}
 use Rattle.model.specs.declared.Answer.{Answer}
 use Rattle.model.specs.declared.Answer.the-variants as answer

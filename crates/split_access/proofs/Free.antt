@@ -2,14 +2,12 @@
 -- A half of block A and an event that goes before, block A's control half and any event, two events on different sides of which not both are live,
 -- and an event that goes after and a half of block B. Assumes nothing.
 use mathlib.Core.Bool.{Bool, true, false, not}
-use mathlib.Core.List.{List}
-use mathlib.Core.Path.{_≡_, refl, sym, _∙_, ap}
+use mathlib.Core.Path.{_≡_}
 use Prim.Native.Nat.{ℕ}
-use lib.Bits.{bitAnd}
 use Rattle.runs.proofs.Runs.{Commute}
 use Rattle.platform.specs.declared.settings.Settings.{Settings}
 use Rattle.machine.specs.declared.Machine.{Machine}
-use Rattle.machine.specs.Cells.{statusIn, onesIn, hasPm1bCnt}
+use Rattle.machine.specs.Cells.{hasPm1bCnt}
 use Rattle.model.specs.Ports.{registerAt}
 use Rattle.model.specs.Step.{answerTo, after, offsetOf}
 use Rattle.model.specs.declared.Access.{Access}

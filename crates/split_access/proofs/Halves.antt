@@ -2,20 +2,18 @@
 -- A read looks at cells that the event leaves alone; a write clears and takes cells that it leaves alone, by the bit laws.
 -- Assumes nothing.
 use mathlib.Core.Bool.{Bool, true, false, cond, and-false}
-use mathlib.Core.List.{List, [], _∷_}
 use mathlib.Core.Path.{_≡_, refl, sym, _∙_, ap}
-use Prim.Native.Nat.{ℕ, _<_, _^_, _-_}
+use Prim.Native.Nat.{ℕ, _<_, _^_}
 use lib.Bits.{bitAnd, bitOr}
-use lib.Dec.{eqb}
 use Rattle.bits.specs.Cell.{kept}
 use Rattle.bits.proofs.Cells.{raise-after-kept, read-after-raise}
 use Rattle.runs.proofs.Runs.{Commute}
 use Rattle.machine.specs.declared.Machine.{Machine}
-use Rattle.model.specs.Answer.{firstApplying}
 use Rattle.model.specs.Bus.{commandLost, namesNone, readOf, writeOf, completes, controlled, typAfter, armedAfter, bmRldAfter, gblRlsAfter}
 use Rattle.machine.specs.Cells.{statusIn, onesIn, inStatus, statusAfter, enableAfter, hasPm1bCnt}
 use Rattle.machine.specs.Fields.{withEvent}
 use Rattle.machine.specs.Lines.{awake}
+use Rattle.model.proofs.Steps.{reads-change-nothing}
 use Rattle.model.specs.Step.{answerTo, after, accepted, registerOf, offsetOf}
 use Rattle.model.specs.declared.Access.{Access}
 use Rattle.model.specs.declared.Event.{Event}
@@ -62,15 +60,6 @@ commute-back m x y c = (sym (c .1), sym (c .0), sym (c .2))
 
 -- ---- reads
 
--- a read changes nothing
-read-stays : (m : Machine) (a : Access) → after m (step.Read a) ≡ m
-unfolding after
-read-stays m a = go (accepted (answerTo m (step.Read a)))
-  where
-    go : (t : Bool) → cond t m m ≡ m
-    go true = refl
-    go false = refl
-
 same-self : (m : Machine) → Same m m
 same-self m = record { settings = refl; button = refl; hold = refl; counter = refl; state = refl }
 
@@ -82,7 +71,7 @@ module _ (m : Machine) (g : Event) where
   mask = effectOf (m .settings) g .mask (m .button) (m .hold) (m .counter)
 
   read-passes : (a : Access) → answerTo m (step.Read a) ≡ answerTo E (step.Read a) → Passes m g (step.Read a)
-  read-passes a shows = record { n = m; same = same-self m; half = read-stays m a; shows = shows; does = read-stays E a }
+  read-passes a shows = record { n = m; same = same-self m; half = reads-change-nothing m a; shows = shows; does = reads-change-nothing E a }
 
   -- "Elsewhere .. reads give zero": the event's bit does not show in the other block
   pub event-read-passes : (a : Access) (b : Bool) → registerOf m a ≡ register.Pm1Evt b → bitAnd mask (statusIn (m .settings) b) ≡ 0 → Passes m g (step.Read a)

@@ -1,13 +1,12 @@
 -- The bits that an event raises lie in its home: outside the cells of block A where it goes before, and outside those of block B where it goes after.
 -- A bit is in the homes of just one block. Assumes nothing.
 use mathlib.Core.Bool.{Bool, true, false, not, cond, _&&_}
-use mathlib.Core.Path.{_≡_, refl, sym, _∙_, ap}
-use Prim.Native.Nat.{ℕ, _+_, _*_, _-_, _%_, _^_, _≤_, _<_, min}
+use mathlib.Core.Path.{_≡_, _∙_}
+use Prim.Native.Nat.{ℕ, _+_, _*_, _-_, _^_, _≤_, _<_}
 use native.Mathlib.Nat.{lt-of-lt-of-le}
-use native.Mathlib.Decide.{decLt}
 use native.Mathlib.Omega.{arith}
 use borrow.Author.Tests.{eqb-true, eqb-false, not-true, not-false}
-use lib.Bits.{bitAnd, and-zero-l, and-comm, and-zero-r}
+use lib.Bits.{bitAnd, and-zero-l, and-comm}
 use lib.Dec.{eqb, lit<}
 use lib.Pow.{shl-lt, pow-mono}
 use Rattle.bits.specs.Cell.{lane}
@@ -17,7 +16,7 @@ use Rattle.bits.proofs.Cells.{masked-lt}
 use Rattle.bits.proofs.Digits.{digit-and, digit-le, digit-zero, digit-not, digit-own-bit, digit-other-bit, same-digits, below-or-beyond}
 use Rattle.platform.specs.Cells.{statusCells}
 use Rattle.platform.specs.declared.settings.Settings.{Settings}
-use Rattle.machine.specs.Cells.{pwrbtnBit, slpbtnBit, rtcBit, tmrBit, hasBit, homesIn, statusIn, onesIn, covered, placed, laneAt}
+use Rattle.machine.specs.Cells.{pwrbtnBit, slpbtnBit, rtcBit, tmrBit, hasBit, statusIn, onesIn, covered, placed, laneAt}
 use Rattle.machine.specs.declared.Machine.{Machine}
 use Rattle.model.specs.Events.{fits, tmrRaised}
 use Rattle.model.specs.declared.Event.{Event}

@@ -10,3 +10,4 @@ pub mod WriteBack
 pub mod Platform
 pub mod Refuted
 pub mod Instance
+pub mod Session

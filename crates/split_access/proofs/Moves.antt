@@ -1,34 +1,28 @@
 -- Demand 3, from every machine with legal settings: the split accesses fit the two laws of reordering, and a list of steps keeps its settings.
 -- Assumes nothing.
-use mathlib.Core.Bool.{Bool, true, false, _&&_, _||_}
-use mathlib.Core.List.{List, [], _∷_, map}
+use mathlib.Core.Bool.{Bool, true, false}
+use mathlib.Core.List.{List, [], _∷_}
 use mathlib.Core.Path.{_≡_, refl, sym, _∙_}
-use Prim.Native.Nat.{ℕ, _+_, _<_}
 use Rattle.lists.specs.Any.{any}
 use Rattle.lists.proofs.Tests.{or-left, or-right}
-use Rattle.runs.specs.Items.{Item, one, control, event, original, moved, stepsOf, Every, Run, Awake, Throughout, after as afterAll}
+use Rattle.runs.specs.Items.{Item, one, control, event, stepsOf, Every, Awake, Throughout, after as afterAll}
 use Rattle.runs.proofs.Fit.{Fit, Sortable, sortable-by, every-imp}
 use Rattle.runs.proofs.Moved.{moved-runs}
 use Rattle.platform.specs.Blocks.{present}
-use Rattle.platform.specs.Legal.{legalSettings, Guaranteed}
-use Rattle.platform.specs.declared.block.Block.{Block}
+use Rattle.platform.specs.Legal.{Guaranteed}
 use Rattle.platform.specs.declared.settings.Settings.{Settings}
-use Rattle.platform.proofs.Legal.{legal-guaranteed}
 use Rattle.machine.specs.SetUp.{setUpOf}
 use Rattle.machine.specs.declared.Machine.{Machine}
-use Rattle.machine.proofs.Accepted.{accepted-legal}
-use Rattle.machine.specs.Cells.{hasPm1bCnt}
+use Rattle.machine.proofs.Accepted.{accepted-guaranteed}
 use Rattle.model.specs.Step.{answerTo, after, stepOf}
 use Rattle.model.proofs.Steps.{settings-kept}
-use Rattle.model.specs.declared.Answer.{Answer}
-use Rattle.model.specs.declared.Event.{Event}
 use Rattle.model.specs.declared.Step.{Step}
 use Rattle.model.specs.declared.Step.the-variants as step
-use Rattle.split_access.specs.Gap.{before, eventBefore, isButton, isTicking}
-use Rattle.split_access.specs.Claims.{accessAt, Halves, reads, writes, GapStep, gap-step, buttonStep, tickingStep, mixed, Gap, ItemOn, step-item, control-item, event-item, InS0, MovesFrom, Demand3}
+use Rattle.split_access.specs.Gap.{before}
+use Rattle.split_access.specs.Claims.{accessAt, Halves, reads, writes, GapStep, gap-step, buttonStep, tickingStep, mixed, ItemOn, step-item, control-item, event-item, InS0, MovesFrom, Demand3}
 use Rattle.split_access.proofs.Free.{Ok, EventHalf, event-read, event-write, ControlHalf, control-read, control-write, Free, past-control, past-half-a, past-event, FreeLast, past-half-b, swap, swap-last}
 use Rattle.split_access.proofs.Leads.{event-a, event-b, control-a}
-use Rattle.split_access.proofs.Sides.{true-false, Unmixed, sides-apart}
+use Rattle.split_access.proofs.Sides.{true-false, sides-apart}
 
 -- ---- the halves
 
@@ -143,4 +137,4 @@ moves-from m legal items end on awake run =
 pub demand-3 : Demand3 setUpOf stepOf
 demand-3 t event-homes control-homes power-override pairs e =
     moves-from (setUpOf t event-homes control-homes power-override pairs .machine)
-    (legal-guaranteed _ (accepted-legal t event-homes control-homes power-override pairs e))
+    (accepted-guaranteed t event-homes control-homes power-override pairs e)

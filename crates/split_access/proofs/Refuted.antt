@@ -28,19 +28,19 @@ use Rattle.split_access.specs.Faulty.{clearsAll, oneRegister, MixedItemO
 use Rattle.split_access.proofs.Platform.{table, pairs, platform, machine, accepted, gives, alarmInB, pressInB, alarm-homes, press-homes, steps-compute}
 
 -- the write-back from the platform's machine
-writes-back-from : (stepped : Machine → Step → Stepped) (homes : ℕ) → homesRefused (platform homes) ≡ false
+writes-back-here : (stepped : Machine → Step → Stepped) (homes : ℕ) → homesRefused (platform homes) ≡ false
     → WriteBack setUpOf stepped
     → (steps : List Step) → WritesBackFrom stepped (afterAll (nextBy stepped) (machine homes) steps)
-writes-back-from stepped homes e w =
+writes-back-here stepped homes e w =
     subst (λ m. (steps : List Step) → WritesBackFrom stepped (afterAll (nextBy stepped) m steps)) (gives homes e)
     (w table homes 0 false pairs (accepted homes e))
 
 -- demand 3, with other items or another test, from the platform's machine
-moves-from : (On : Settings → Item Step → Type 0) (first : Settings → Step → Bool) (stepped : Machine → Step → Stepped) (homes : ℕ)
+moves-here : (On : Settings → Item Step → Type 0) (first : Settings → Step → Bool) (stepped : Machine → Step → Stepped) (homes : ℕ)
     → homesRefused (platform homes) ≡ false
     → Demand3By On first setUpOf stepped
     → MovesBy On first stepped (machine homes)
-moves-from On first stepped homes e d = subst (MovesBy On first stepped) (gives homes e) (d table homes 0 false pairs (accepted homes e))
+moves-here On first stepped homes e d = subst (MovesBy On first stepped) (gives homes e) (d table homes 0 false pairs (accepted homes e))
 
 -- ---- version 1
 
@@ -50,13 +50,13 @@ alarmAfterReads = record { offset = 0; width = 2; gap₁ = []; gap₂ = step.Eve
 
 alarm-after-on : RoundOn (platform alarmInB) alarmAfterReads
 unfolding present Every
-alarm-after-on = record { in-status = omega arith; one-or-two = inr refl; b-present = refl; steps₁ = tt; steps₂ = (gap-step event.Alarm, tt); steps₃ = tt; steps₄ = tt }
+alarm-after-on = record { in-status = omega arith; b-present = refl; steps₁ = tt; steps₂ = (gap-step event.Alarm, tt); steps₃ = tt; steps₄ = tt }
 
 -- "A 04:00 alarm that arrived while the power button was handled was wiped with it.": A reads and writes back 0100, and the alarm's bit 10 is gone
 pub whole-clear-refuted : WriteBack setUpOf clearsAll → ⊥
 unfolding steps-compute
 whole-clear-refuted w =
-    let lost = writes-back-from clearsAll alarmInB alarm-homes w (step.Event event.Press ∷ []) alarmAfterReads alarm-after-on (refl, (refl, (refl, (refl, (refl, refl))))) in
+    let lost = writes-back-here clearsAll alarmInB alarm-homes w (step.Event event.Press ∷ []) alarmAfterReads alarm-after-on (refl, (refl, (refl, (refl, (refl, refl))))) in
     let z : _≡_ {A = ℕ} 0 1 = lost .pm1 10 (omega arith) (inr (inl refl)) refl in
     omega arith
 
@@ -68,13 +68,13 @@ alarmBetweenReads = record { offset = 0; width = 2; gap₁ = step.Event event.Al
 
 alarm-between-on : RoundOn (platform pressInB) alarmBetweenReads
 unfolding present Every
-alarm-between-on = record { in-status = omega arith; one-or-two = inr refl; b-present = refl; steps₁ = (gap-step event.Alarm, tt); steps₂ = tt; steps₃ = tt; steps₄ = tt }
+alarm-between-on = record { in-status = omega arith; b-present = refl; steps₁ = (gap-step event.Alarm, tt); steps₂ = tt; steps₃ = tt; steps₄ = tt }
 
 -- "an alarm between the two accesses was in neither the value read nor the register afterwards": A, its home, reads 0; B shows 0400 and its write clears it
 pub one-register-refuted : WriteBack setUpOf oneRegister → ⊥
 unfolding steps-compute
 one-register-refuted w =
-    let lost = writes-back-from oneRegister pressInB press-homes w [] alarmBetweenReads alarm-between-on (refl, (refl, (refl, (refl, (refl, refl))))) in
+    let lost = writes-back-here oneRegister pressInB press-homes w [] alarmBetweenReads alarm-between-on (refl, (refl, (refl, (refl, (refl, refl))))) in
     let z : _≡_ {A = ℕ} 0 1 = lost .pm1 10 (omega arith) (inl refl) refl in
     omega arith
 
@@ -102,7 +102,7 @@ alarm-in-gap-on homes = (event-item refl (reads 0 2 (omega arith)) alarm-gap, tt
 pub one-register-moves-refuted : Demand3 setUpOf oneRegister → ⊥
 unfolding steps-compute
 one-register-moves-refuted d =
-    let moves = moves-from ItemOn before oneRegister pressInB press-homes d in
+    let moves = moves-here ItemOn before oneRegister pressInB press-homes d in
     let r = moves alarmInGap (withEvent (machine pressInB) 0x400 0) (alarm-in-gap-on pressInB) ((refl, (refl, refl)), tt) (refl, (refl, (refl, refl))) in
     let z : _≡_ {A = ℕ} 0 0x400 = ap valueOf (r .1 .0) in
     omega arith
@@ -126,7 +126,7 @@ mixed-gap-on = (event-item refl (reads 0 2 (omega arith)) mixed-steps, tt)
 pub mixed-gap-refuted : Demand3By MixedItemOn before setUpOf stepOf → ⊥
 unfolding steps-compute
 mixed-gap-refuted d =
-    let moves = moves-from MixedItemOn before stepOf pressInB press-homes d in
+    let moves = moves-here MixedItemOn before stepOf pressInB press-homes d in
     let end = withTime (withButton (withEvent (machine pressInB) 0x100 0) true 0) 1 0 in
     let r = moves mixedGap end mixed-gap-on ((refl, (refl, (refl, refl))), tt) (refl, (refl, (refl, (refl, refl)))) in
     let z : _≡_ {A = ℕ} 1 0 = ap (λ m. m .hold) (r .1 .1 .1 .1) in
@@ -136,7 +136,7 @@ mixed-gap-refuted d =
 pub other-side-refuted : Demand3By ItemOn otherSide setUpOf stepOf → ⊥
 unfolding steps-compute
 other-side-refuted d =
-    let moves = moves-from ItemOn otherSide stepOf alarmInB alarm-homes d in
+    let moves = moves-here ItemOn otherSide stepOf alarmInB alarm-homes d in
     let r = moves alarmInGap (withEvent (machine alarmInB) 0x400 0) (alarm-in-gap-on alarmInB) ((refl, (refl, refl)), tt) (refl, (refl, (refl, refl))) in
     let z : _≡_ {A = ℕ} 0 0x400 = ap valueOf (r .1 .0) in
     omega arith

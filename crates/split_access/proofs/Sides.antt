@@ -1,6 +1,6 @@
 -- Two events of one gap that go to different sides: not both are live, so that they may change places.
 -- Presses and releases have one home, ticks have one home, and no gap holds both kinds. Assumes nothing.
-use mathlib.Core.Bool.{Bool, true, false, not, _&&_}
+use mathlib.Core.Bool.{Bool, true, false, not}
 use mathlib.Core.Path.{_≡_, refl, sym, _∙_}
 use Prim.Native.Nat.{ℕ}
 use native.Mathlib.Omega.{arith}
@@ -14,8 +14,7 @@ use Rattle.model.specs.declared.Answer.the-variants as answer
 use Rattle.model.specs.declared.Event.{Event}
 use Rattle.model.specs.declared.Event.the-variants as event
 use Rattle.split_access.specs.Gap.{livesInB, eventBefore, isButton, isTicking}
-use Rattle.split_access.proofs.Effects.{effectOf}
-use Rattle.split_access.proofs.Commute.{Quiet, GpeKept, Apart, quiet-first, quiet-second, quietly}
+use Rattle.split_access.proofs.Commute.{Quiet, GpeKept, Apart, quiet-first, quiet-second}
 
 zero-one : _≡_ {A = ℕ} 0 1 → ⊥
 zero-one e = omega arith

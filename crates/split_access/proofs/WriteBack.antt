@@ -4,13 +4,11 @@
 use mathlib.Core.Bool.{Bool, true, false, not, cond, and-false}
 use mathlib.Core.List.{List, [], _∷_, _++_}
 use mathlib.Core.Logic.{_⊎_, inl, inr, ⊎-elim}
-use mathlib.Core.Path.{_≡_, refl, sym, _∙_, ap}
-use Prim.Native.Nat.{ℕ, zero, suc, _+_, _*_, _-_, _^_, _≤_, _<_, min, max}
+use mathlib.Core.Path.{_≡_, refl, _∙_}
+use Prim.Native.Nat.{ℕ, _*_, _^_, _≤_, _<_, max}
 use native.Mathlib.Omega.{arith}
-use lib.Bits.{bitAnd, bitOr}
 use lib.Dec.{lit<}
-use lib.ListN.{length, getD, replicate}
-use Rattle.bits.specs.Cell.{kept}
+use lib.ListN.{length, getD}
 use Rattle.bits.specs.Digit.{digit}
 use Rattle.bits.proofs.Cells.{digit-kept}
 use Rattle.bits.proofs.Digits.{digit-and, digit-or, digit-le, digit-zero}
@@ -20,15 +18,13 @@ use Rattle.platform.specs.Legal.{Guaranteed, HasGpeLength, HasNone}
 use Rattle.platform.specs.Rules.{eventCount}
 use Rattle.platform.specs.declared.block.Block.{Block}
 use Rattle.platform.specs.declared.settings.Settings.{Settings}
-use Rattle.platform.proofs.Legal.{legal-guaranteed}
-use Rattle.machine.specs.Cells.{placed, covered, statusIn, onesIn, inStatus, gpeSts}
+use Rattle.machine.specs.Cells.{placed, statusIn, onesIn, inStatus, gpeSts}
 use Rattle.machine.specs.Lines.{awake}
-use Rattle.machine.specs.PowerOn.{powerOn, noBytes}
+use Rattle.machine.specs.PowerOn.{gpeBytes, powerOn}
 use Rattle.machine.specs.SetUp.{setUpOf}
 use Rattle.machine.specs.declared.Machine.{Machine}
-use Rattle.machine.proofs.Accepted.{accepted-legal, accepted-machine}
+use Rattle.machine.proofs.Accepted.{accepted-guaranteed, accepted-machine}
 use Rattle.fadt.specs.Fields.{settingsOf}
-use Rattle.model.specs.Answer.{valueOf}
 use Rattle.model.specs.Events.{inS5}
 use Rattle.model.specs.Raises.{Change, unchanged, bitsIf, pressChange, signalChange, pcieWakeChange, ticksChange, eventChange, ruleChange, writeChange, raises, clears, gpeEventChange, gpeOnes, gpeRuleChange, gpeRaises, gpeClears}
 use Rattle.model.specs.Step.{answerTo, after, accepted, stepOf, registerOf, offsetOf}
@@ -38,7 +34,7 @@ use Rattle.model.specs.declared.Event.the-variants as event
 use Rattle.model.specs.declared.Register.the-variants as register
 use Rattle.model.specs.declared.Step.{Step}
 use Rattle.model.specs.declared.Step.the-variants as step
-use Rattle.model.proofs.Raises.{status-law, clears-lt, raises-lt, status-stays-below, gpe-status-law-everywhere, gpe-status-stays-below, gpe-clears-lt, gpeBlock}
+use Rattle.model.proofs.Raises.{status-law, clears-lt, status-stays-below, gpe-status-law-everywhere, gpe-status-stays-below, gpe-clears-lt, gpeBlock, no-byte}
 use Rattle.model.proofs.Sized.{Sized, sized-at, sized-kept}
 use Rattle.model.proofs.Steps.{settings-kept}
 use Rattle.split_access.specs.Claims.{accessAt, GapStep, gap-step, InS0}
@@ -47,7 +43,7 @@ use Rattle.split_access.proofs.Effects.{On, event-on}
 use Rattle.split_access.proofs.Homes.{home-digit}
 use Rattle.split_access.proofs.Leads.{event-a, event-b, offset-a, offset-b}
 use Rattle.split_access.proofs.Moves.{all-kept}
-use Rattle.split_access.specs.WriteBack.{RaisedIn, Round, RoundOn, readA, readB, nextBy, valueA, valueB, restOf, NothingLost, WritesBackFrom, WriteBack}
+use Rattle.split_access.specs.WriteBack.{RaisedIn, Round, RoundOn, readA, valueA, valueB, restOf, NothingLost, WritesBackFrom, WriteBack}
 
 -- ---- machines with their widths
 
@@ -329,11 +325,6 @@ writes-back-from m w r on awake = nothing-lost m w r on awake
 
 -- ---- from setting up
 
-zeros : (n i : ℕ) → _≡_ {A = ℕ} (getD (replicate n 0) i 0) 0
-zeros zero i = refl
-zeros (suc n) zero = refl
-zeros (suc n) (suc i) = zeros n i
-
 power-on-wide : (s : Settings) → Guaranteed s → Wide (powerOn s)
 power-on-wide s legal =
     record {
@@ -344,14 +335,14 @@ power-on-wide s legal =
     }
   where
     none : (b : Bool) (i : ℕ) → getD (gpeSts (powerOn s) b) i 0 < 2 ^ 8
-    none true i = rw (zeros 8 i) (lit< tt)
-    none false i = rw (zeros 8 i) (lit< tt)
+    none true i = rw (no-byte gpeBytes i) (lit< tt)
+    none false i = rw (no-byte gpeBytes i) (lit< tt)
 
 -- "after any steps from setting up"
 pub write-back : WriteBack setUpOf stepOf
 write-back t event-homes control-homes power-override pairs e steps =
     let s = settingsOf t event-homes control-homes power-override pairs in
     let m = setUpOf t event-homes control-homes power-override pairs .machine in
-    let legal = legal-guaranteed (m .settings) (accepted-legal t event-homes control-homes power-override pairs e) in
+    let legal = accepted-guaranteed t event-homes control-homes power-override pairs e in
     let start : Wide m = rw (accepted-machine t s e) (power-on-wide s (rw (accepted-machine t s e) at legal)) in
     writes-back-from (afterAll after m steps) (wide-all m steps start)

@@ -1,7 +1,5 @@
 -- Two steps that were paid for and failed, and demand 3 changed in two ways. That each is wrong is shown in `proofs/Refuted.antt`.
 use mathlib.Core.Bool.{Bool, true, false, not, cond, _&&_}
-use mathlib.Core.List.{List}
-use Prim.Native.Nat.{ℕ}
 use lib.Bits.{bitAnd}
 use Rattle.bits.specs.Cell.{kept}
 use Rattle.runs.specs.Items.{Item, Every}

@@ -1,5 +1,5 @@
 -- Gap steps: what may come between the halves of a split access, and which of them move before it.
-use mathlib.Core.Bool.{Bool, false, true, not, _&&_}
+use mathlib.Core.Bool.{Bool, false, true, not}
 use Prim.Native.Nat.{ℕ}
 use lib.Dec.{eqb}
 use Rattle.platform.specs.declared.settings.Settings.{Settings}

@@ -35,10 +35,9 @@ pub record Round : Type 0 where
   pub gap₃ : List Step
   pub gap₄ : List Step
 
--- "a split read of status bytes": one or two of them, at any offset of the status half; "only gap steps, mixed in any way"
+-- "a split read of status bytes", of any width at any offset of the status half; "only gap steps, mixed in any way"
 pub record RoundOn (s : Settings) (r : Round) : Type 0 where
   pub in-status : r .offset < 2
-  pub one-or-two : (r .width ≡ 1) ⊎ (r .width ≡ 2)
   pub b-present : present (s .«pm1b_evt») ≡ true
   pub steps₁ : Every GapStep (r .gap₁)
   pub steps₂ : Every GapStep (r .gap₂)

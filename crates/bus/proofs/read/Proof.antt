@@ -1,6 +1,6 @@
 -- `bus::read` meets its contract: what its calls and tests say, put together, is the definition. Assumes nothing.
 use borrow.Author.Needs.{needs}
-use Rattle.bus.proofs.Laws.{read-stays}
+use Rattle.model.proofs.Steps.{reads-change-nothing}
 use Rattle.model.specs.Step.{answerTo}
 use Rattle.bus.proofs.read.Statement.{statement}
 use Rattle.bus.proofs.read.Tie as tie
@@ -16,7 +16,7 @@ read-answer-requires c κs = search needs
 
 returns : tie.Need-returns
 unfolding answerTo
-returns c = simp (c .read-answer .ensures, c .before .offset-at .ensures, c .before .before .register-at .ensures, read-stays)
+returns c = simp (c .read-answer .ensures, c .before .offset-at .ensures, c .before .before .register-at .ensures, reads-change-nothing)
 
 pub read-spec : {M : Type 1} → statement M
 read-spec =
