@@ -51,8 +51,8 @@ module _ (own : ℕ) (xs : List ℕ) where
   unfolding bytesLegal
   bytes-mean e =
       let two = and-left (eqb (length xs) gpeBytes && not (any (leb 256) xs)) (not (any (ltb 0) (drop own xs))) e in
-      let small = not-true _ (and-right (eqb (length xs) gpeBytes) (not (any (leb 256) xs)) two) in
-      let zeros = not-true _ (and-right (eqb (length xs) gpeBytes && not (any (leb 256) xs)) (not (any (ltb 0) (drop own xs))) e) in
+      let small : any (leb 256) xs ≡ false = not-true _ (and-right (eqb (length xs) gpeBytes) (not (any (leb 256) xs)) two) in
+      let zeros : any (ltb 0) (drop own xs) ≡ false = not-true _ (and-right (eqb (length xs) gpeBytes && not (any (leb 256) xs)) (not (any (ltb 0) (drop own xs))) e) in
       record {
         size = eqb-true (length xs) gpeBytes (and-left _ _ two);
         below = λ i. leb-false 256 (getD xs i 0) (none-at (leb 256) xs refl small i);

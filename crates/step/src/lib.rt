@@ -5,6 +5,7 @@ use model::Stepped;
 ghost use mathlib.Core.Path.{_≡_};
 ghost use Rattle.model.specs.Step.{stepOf};
 
+// The answer, and the machine after it; a refusal leaves the machine as it was.
 pub fn step(m: Machine, s: Step) -> Stepped
     ensures { λ r. ⌜ r ≡ stepOf m s ⌝ }
 {
