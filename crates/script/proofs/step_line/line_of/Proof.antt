@@ -1,0 +1,57 @@
+-- `script::step_line::line_of` meets its contract: the number of fields picks the same case as in the definition, and that case's function gives it. Assumes nothing.
+use borrow.Author.Tests.{ne-eqb}
+use mathlib.Core.Path.{sym, _∙_}
+use Rattle.script.specs.StepLine.{lineOf}
+use borrow.Author.Needs.{needs}
+use Rattle.script.proofs.step_line.line_of.Statement.{statement}
+use Rattle.script.proofs.step_line.line_of.Tie as tie
+
+field-count-requires : tie.Need-field-count-requires
+field-count-requires c κs = search needs
+
+lone-line-requires : tie.Need-lone-line-requires
+lone-line-requires c κs = search needs
+
+returns : tie.Need-returns
+unfolding lineOf
+returns c = simp (c .lone-line .ensures, sym (c .before .before .field-count .ensures) ∙ c .before .if1 .taken)
+
+count-line-requires : tie.Need-count-line-requires
+count-line-requires c κs = search needs
+
+returns-2 : tie.Need-returns-2
+unfolding lineOf
+returns-2 c = simp (c .count-line .ensures, sym (c .before .before .before .field-count .ensures) ∙ c .before .if2 .taken)
+
+read-line-requires : tie.Need-read-line-requires
+read-line-requires c κs = search needs
+
+returns-3 : tie.Need-returns-3
+unfolding lineOf
+returns-3 c = simp (c .read-line .ensures, sym (c .before .before .before .before .field-count .ensures) ∙ c .before .if3 .taken)
+
+write-line-requires : tie.Need-write-line-requires
+write-line-requires c κs = search needs
+
+returns-4 : tie.Need-returns-4
+unfolding lineOf
+returns-4 c = simp (c .write-line .ensures, sym (c .before .before .before .before .before .field-count .ensures) ∙ c .before .if4 .taken)
+
+returns-5 : tie.Need-returns-5
+unfolding lineOf
+returns-5 c = simp (sym (c .before .before .before .before .field-count .ensures), ne-eqb _ _ (c .if4 .left), ne-eqb _ _ (c .before .if3 .left), ne-eqb _ _ (c .before .before .if2 .left), ne-eqb _ _ (c .before .before .before .if1 .left))
+
+pub line-of-spec : {M : Type 1} → statement M
+line-of-spec =
+    tie.close
+    (tie.spec
+    field-count-requires
+    lone-line-requires
+    returns
+    count-line-requires
+    returns-2
+    read-line-requires
+    returns-3
+    write-line-requires
+    returns-4
+    returns-5)
