@@ -1,0 +1,218 @@
+-- Laws for the loops over a script's lines: one turn, and the end. Assumes nothing.
+use mathlib.Core.Bool.{Bool, true, false, cond}
+use mathlib.Core.List.{List, [], _++_}
+use mathlib.Core.Path.{_≡_, refl, sym, _∙_, ap, ap₂}
+use mathlib.Core.Logic.{_⊎_, inl, inr}
+use Prim.Native.Nat.{ℕ, suc, _+_, _-_, _≤_, _<_}
+use native.Mathlib.Omega.{arith}
+use borrow.Author.Tests.{ltb-true, ltb-false, leb-true, leb-false, le-leb, lt-leb, eq-eqb, ne-eqb}
+use lib.Dec.{eqb, ltb, leb}
+use lib.ListN.{length, drop, length-append}
+use lib.Seq.{sets, length-sets, length-take-le}
+use Rattle.lists.proofs.Tests.{and-right}
+use Rattle.text.specs.Parts.{lf, stopAt, front, linesOf, endOf, nextLine}
+use Rattle.text.proofs.Cuts.{stop-within}
+use Rattle.text.proofs.Stores.{sets-then}
+use Rattle.text.proofs.Lines.{line-turn, line-end}
+use Rattle.platform.specs.Answer.{answerNumber}
+use Rattle.machine.specs.declared.Machine.{Machine}
+use Rattle.machine.specs.declared.SetUp.{SetUp}
+use Rattle.model.specs.Step.{stepOf}
+use Rattle.model.specs.declared.Step.{Step}
+use Rattle.model.specs.declared.Stepped.{Stepped}
+use Rattle.listing.specs.Entry.{header, entry, entryLength, putAt}
+use Rattle.listing.proofs.Laws.{entry-length}
+use Rattle.script.specs.StepLine.{lineOf}
+use Rattle.script.specs.declared.step_line.Line.{Line}
+use Rattle.script.specs.declared.step_line.Line.the-variants as line
+use Rattle.session.specs.Session.{limit, lineEnd, isStep, stepReads, firstUnread, stepIn, entries, listingOf, answerFor, textFor, platformLineReads, settled, unread, answerOf, bufferAfter}
+use Rattle.session.specs.declared.SessionAnswer.{SessionAnswer}
+use Rattle.session.specs.declared.SessionAnswer.the-variants as answer
+
+module _ (xs : List ℕ) (i : ℕ) where
+  -- the line from a place on
+  abbrev pub lineAt : List ℕ
+  lineAt = front lf (drop i xs)
+
+  -- the next line begins where this one ends, its LF with it
+  pub next-is-end : nextLine xs i ≡ lineEnd (length xs) i lineAt
+  unfolding nextLine
+  next-is-end = go (ltb (endOf lf xs i) (length xs)) refl
+    where
+      long : length lineAt ≡ stopAt lf (drop i xs)
+      long = length-take-le (stopAt lf (drop i xs)) (drop i xs) (stop-within lf (drop i xs))
+
+      go : (t : Bool) → ltb (endOf lf xs i) (length xs) ≡ t → cond t (endOf lf xs i + 1) (length xs) ≡ lineEnd (length xs) i lineAt
+      go true e = omega (arith, long, ltb-true (endOf lf xs i) (length xs) e)
+      go false e = omega (arith, long, ltb-false (endOf lf xs i) (length xs) e)
+
+  -- a line that says a step reads where it ends within the limit
+  pub step-read : (l : List ℕ) (r : Line) (next : ℕ) (s : Step) → l ≡ lineAt → r ≡ lineOf l → next ≡ nextLine xs i → r ≡ line.Step s
+      → leb next limit ≡ stepReads (length xs) i lineAt
+  unfolding stepReads
+  step-read l r next s p q e k =
+      let says : lineOf lineAt ≡ line.Step s = ap lineOf (sym p) ∙ sym q ∙ k in
+      rw (says, e, next-is-end) refl
+
+  -- a step's line ends within the limit
+  pub read-within : stepReads (length xs) i lineAt ≡ true → nextLine xs i ≤ limit
+  unfolding stepReads
+  read-within e = rw next-is-end (leb-true _ _ (and-right (isStep (lineOf lineAt)) _ e))
+
+  -- a line that reads, and one that does not
+  pub unread-turn : (k : ℕ) → i < length xs → stepReads (length xs) i lineAt ≡ true
+      → firstUnread (length xs) k i (linesOf (drop i xs)) ≡ firstUnread (length xs) (suc k) (nextLine xs i) (linesOf (drop (nextLine xs i) xs))
+  unfolding firstUnread
+  unread-turn k h e = rw (line-turn xs i h, e, next-is-end) refl
+
+  pub unread-here : (k : ℕ) → i < length xs → stepReads (length xs) i lineAt ≡ false → firstUnread (length xs) k i (linesOf (drop i xs)) ≡ k
+  unfolding firstUnread
+  unread-here k h e = rw (line-turn xs i h, e) refl
+
+  pub unread-end : (k : ℕ) → length xs ≤ i → firstUnread (length xs) k i (linesOf (drop i xs)) ≡ 0
+  unfolding firstUnread
+  unread-end k h = rw (line-end xs i h) refl
+
+-- a write keeps the buffer's length
+pub put-length : (buf : List ℕ) (o : ℕ) (text : List ℕ) → length (putAt buf o text) ≡ length buf
+put-length buf o text = go (leb (o + length text) (length buf))
+  where
+    go : (t : Bool) → length (cond t (sets buf o text) buf) ≡ length buf
+    go true = length-sets buf o text
+    go false = refl
+
+-- ---- the listing's lines
+
+module _ (xs : List ℕ) (i : ℕ) where
+  -- what the step of the line from a place on gives
+  abbrev pub doneAt : Machine → Stepped
+  doneAt m = stepOf m (stepIn (lineOf (lineAt xs i)))
+
+  -- the lines from a place on
+  abbrev pub entriesAt : ℕ → Machine → List ℕ
+  entriesAt k m = entries k m (linesOf (drop i xs))
+
+  module _ (k : ℕ) (m : Machine) where
+    -- those after the first
+    abbrev pub moreAt : List ℕ
+    moreAt = entries (suc k) (doneAt m .machine) (linesOf (drop (nextLine xs i) xs))
+
+    pub entries-turn : i < length xs → entriesAt k m ≡ entry k (doneAt m .answer) (doneAt m .machine) ++ moreAt
+    unfolding entries
+    entries-turn h = rw (line-turn xs i h) refl
+
+    pub entries-end : length xs ≤ i → entriesAt k m ≡ []
+    unfolding entries
+    entries-end h = rw (line-end xs i h) refl
+
+    pub entries-length : i < length xs → length (entriesAt k m) ≡ entryLength k (doneAt m .answer) + length moreAt
+    entries-length h =
+        ap length (entries-turn h)
+        ∙ length-append (entry k (doneAt m .answer) (doneAt m .machine)) moreAt
+        ∙ ap (λ (n : ℕ). n + length moreAt) (entry-length k (doneAt m .answer) (doneAt m .machine))
+
+    module _ (left n : ℕ) where
+      pub fit-turn : i < length xs → n ≡ entryLength k (doneAt m .answer) → n ≤ left → leb (length moreAt) (left - n) ≡ leb (length (entriesAt k m)) left
+      fit-turn h e p = go (leb (length moreAt) (left - n)) refl
+        where
+          go : (t : Bool) → leb (length moreAt) (left - n) ≡ t → t ≡ leb (length (entriesAt k m)) left
+          go true q = sym (le-leb (length (entriesAt k m)) left (omega (arith, entries-length h, e, p, leb-true (length moreAt) (left - n) q)))
+          go false q = sym (lt-leb (length (entriesAt k m)) left (omega (arith, entries-length h, e, p, leb-false (length moreAt) (left - n) q)))
+
+      pub fit-not : i < length xs → n ≡ entryLength k (doneAt m .answer) → left < n → leb (length (entriesAt k m)) left ≡ false
+      fit-not h e p = lt-leb (length (entriesAt k m)) left (omega (arith, entries-length h, e, p))
+
+    pub fit-end : (left : ℕ) → length xs ≤ i → leb (length (entriesAt k m)) left ≡ true
+    fit-end left h = rw (entries-end h) (le-leb 0 left (omega arith))
+
+    -- the first line written where all fit, then the rest
+    pub write-turn : (buf : List ℕ) (o : ℕ) → i < length xs → o + length (entriesAt k m) ≤ length buf
+        → sets (putAt buf o (entry k (doneAt m .answer) (doneAt m .machine))) (o + entryLength k (doneAt m .answer)) moreAt ≡ sets buf o (entriesAt k m)
+    write-turn buf o h p =
+        let long = entry-length k (doneAt m .answer) (doneAt m .machine) in
+        let fit : o + length (entry k (doneAt m .answer) (doneAt m .machine)) ≤ length buf = omega (arith, entries-length h, p, long) in
+        rw (le-leb _ _ fit, entries-turn h)
+        (sym (sets-then buf o (o + entryLength k (doneAt m .answer)) (entry k (doneAt m .answer) (doneAt m .machine)) moreAt (ap (λ (n : ℕ). o + n) long)))
+
+-- ---- the listing, where it fits and where not
+
+module _ (m : Machine) (ls : List (List ℕ)) (l : List ℕ) where
+  -- its lines
+  abbrev pub body : List ℕ
+  body = entries 1 m ls
+
+  listing-length : length (listingOf m ls) ≡ 32 + length body
+  listing-length = length-append header body
+
+  -- room for the listing is room for its lines after the header
+  pub room-for : (first : List ℕ) → 32 ≤ length l → leb (length body) (length l - 32) ≡ true → first ≡ sets l 0 header → 32 + length body ≤ length first
+  room-for first p q e = omega (arith, p, leb-true (length body) (length l - 32) q, ap length e ∙ length-sets l 0 header)
+
+  pub listing-written : (end : ℕ) (first second : List ℕ) → 32 ≤ length l → leb (length body) (length l - 32) ≡ true
+      → first ≡ sets l 0 header → end ≡ 32 + length body → second ≡ sets first 32 body
+      → (answer.Written end ≡ answerFor (length (listingOf m ls)) (length l)) × (second ≡ textFor (listingOf m ls) l)
+  unfolding answerFor textFor
+  listing-written end first second p q e w f =
+      let fit : leb (length (listingOf m ls)) (length l) ≡ true =
+      le-leb (length (listingOf m ls)) (length l) (omega (arith, listing-length, p, leb-true (length body) (length l - 32) q)) in
+      (rw (fit, w, listing-length) refl, rw fit (f ∙ ap (λ (b : List ℕ). sets b 32 body) e ∙ sym (sets-then l 0 32 header body refl)))
+
+  pub no-room : (length l < 32) ⊎ (leb (length body) (length l - 32) ≡ false)
+      → (answer.NoRoom ≡ answerFor (length (listingOf m ls)) (length l)) × (l ≡ textFor (listingOf m ls) l)
+  unfolding answerFor textFor
+  no-room why =
+      let short : leb (length (listingOf m ls)) (length l) ≡ false =
+      lt-leb (length (listingOf m ls)) (length l) (go why) in
+      (rw short refl, rw short refl)
+    where
+      go : (length l < 32) ⊎ (leb (length body) (length l - 32) ≡ false) → length l < length (listingOf m ls)
+      go (inl p) = omega (arith, p, listing-length)
+      go (inr q) = omega (arith, listing-length, leb-false (length body) (length l - 32) q)
+
+-- ---- the session: what its tests say, in their order
+
+module _ (table script l : List ℕ) where
+  abbrev Ends : SessionAnswer → List ℕ → Type 0
+  Ends r exit = (r ≡ answerOf table script (length l)) × (exit ≡ bufferAfter table script l)
+
+  -- "the platform line does not read"
+  pub platform-unread : platformLineReads script ≡ false → Ends answer.PlatformLine l
+  unfolding answerOf bufferAfter
+  platform-unread p = (rw p refl, rw p refl)
+
+  module _ (made : SetUp) (number : ℕ) (p : platformLineReads script ≡ true) (q : made ≡ settled table script) (n : number ≡ answerNumber (made .answer)) where
+    same-number : number ≡ answerNumber (settled table script .answer)
+    same-number = n ∙ ap (λ (x : SetUp). answerNumber (x .answer)) q
+
+    -- "setting up refused, with its own number"
+    pub set-up-refused : (number ≡ 0 → ⊥) → Ends (answer.SetUp number) l
+    unfolding answerOf bufferAfter
+    set-up-refused z =
+        let no : eqb (answerNumber (settled table script .answer)) 0 ≡ false = ne-eqb _ _ (λ e. z (same-number ∙ e)) in
+        (rw (p, no) (ap answer.SetUp same-number), rw (p, no) refl)
+
+    module _ (from found : ℕ) (z : number ≡ 0) (f : from ≡ nextLine script 0) (u : found ≡ firstUnread (length script) 2 from (linesOf (drop from script))) where
+      yes : eqb (answerNumber (settled table script .answer)) 0 ≡ true
+      yes = eq-eqb _ _ (sym same-number ∙ z)
+
+      same-found : found ≡ unread script
+      same-found = u ∙ ap (λ (x : ℕ). firstUnread (length script) 2 x (linesOf (drop x script))) f
+
+      -- "a later line does not read, with its line number"
+      pub line-unread : (found ≡ 0 → ⊥) → Ends (answer.Line found) l
+      unfolding answerOf bufferAfter
+      line-unread w =
+          let no : eqb (unread script) 0 ≡ false = ne-eqb _ _ (λ e. w (same-found ∙ e)) in
+          (rw (p, yes, no) (ap answer.Line same-found), rw (p, yes, no) refl)
+
+      -- all reads: the listing, or no room
+      pub all-read : (r : SessionAnswer) (exit : List ℕ) → found ≡ 0
+          → (r ≡ answerFor (length (listingOf (made .machine) (linesOf (drop from script)))) (length l))
+          × (exit ≡ textFor (listingOf (made .machine) (linesOf (drop from script))) l)
+          → Ends r exit
+      unfolding answerOf bufferAfter
+      all-read r exit w e =
+          let none : eqb (unread script) 0 ≡ true = eq-eqb _ _ (sym same-found ∙ w) in (
+            rw (p, yes, none) (e .0 ∙ ap₂ (λ (x : SetUp) (o : ℕ). answerFor (length (listingOf (x .machine) (linesOf (drop o script)))) (length l)) q f),
+            rw (p, yes, none) (e .1 ∙ ap₂ (λ (x : SetUp) (o : ℕ). textFor (listingOf (x .machine) (linesOf (drop o script))) l) q f),
+          )

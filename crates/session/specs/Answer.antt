@@ -1,0 +1,20 @@
+-- The answers of a session: a number and a value for each.
+use Prim.Native.Nat.{ℕ}
+use Rattle.session.specs.declared.SessionAnswer.{SessionAnswer}
+use Rattle.session.specs.declared.SessionAnswer.the-variants as answer
+
+-- 0, 43 for no room, 46 for a line that does not read, and setting up's own number
+abbrev pub numberOf : SessionAnswer → ℕ
+numberOf (answer.Written length) = 0
+numberOf answer.PlatformLine = 46
+numberOf (answer.SetUp number) = number
+numberOf (answer.Line number) = 46
+numberOf answer.NoRoom = 43
+
+-- the listing's length, or the number of the line
+abbrev pub valueOf : SessionAnswer → ℕ
+valueOf (answer.Written length) = length
+valueOf answer.PlatformLine = 1
+valueOf (answer.SetUp number) = 0
+valueOf (answer.Line number) = number
+valueOf answer.NoRoom = 0
