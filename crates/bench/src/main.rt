@@ -25,6 +25,9 @@ fn main() {
     let table_length = read_table(&mut table);
     let mut script = script_buffer();
     let script_length = io::read_full(STDIN_FILENO, &mut script);
+    if !at_end(script_length) {
+        return;
+    }
     let mut listing = listing_buffer();
     let answer = session::session(
         &table[..table_length],
@@ -32,6 +35,15 @@ fn main() {
         &mut listing,
     );
     print(answer, &listing);
+}
+
+// Whether nothing is left to read, after so many bytes; a script that fills its buffer is too long in any case.
+fn at_end(length: usize) -> bool {
+    if length == 65537 {
+        return true;
+    }
+    let mut next = [0u8; 1];
+    libc::read(STDIN_FILENO, &mut next) == 0
 }
 
 // A table that is not there has no byte.

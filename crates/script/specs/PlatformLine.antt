@@ -37,7 +37,7 @@ platformReads l =
     overrideReads (fieldAt l 3) &&
     statesRead l
 
--- what it says; of a line that does not read, anything
+-- what it says; homes that do not read are 0
 unfoldable pub homesAt : List ℕ → ℕ → ℕ
 homesAt l n = cond (hexBelow (2 ^ 16) l n) (hexAt l n) 0
 

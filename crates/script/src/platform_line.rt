@@ -33,7 +33,7 @@ pub fn platform_reads(line: &[u8]) -> bool
         & states_read(line)
 }
 
-// What the line says; of a line that does not read, anything.
+// What the line says; homes that do not read are 0.
 pub fn event_homes(line: &[u8]) -> u16
     ensures { λ r. ⌜ r ≡ homesAt (now (line .entry)) 1 ⌝ }
 {

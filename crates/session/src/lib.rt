@@ -41,7 +41,7 @@ pub enum SessionAnswer {
 
 const LIMIT: usize = 65536;
 
-// Whether the line that begins at a place is a step.
+// Whether the line that begins at a place is a step and ends within the limit.
 fn step_reads(source: &[u8], start: usize) -> bool
     ensures { λ r. ⌜ r ≡ stepReads (length (now (source .entry))) start (front lf (drop start (now (source .entry)))) ⌝ }
 {

@@ -52,7 +52,7 @@ pastStops stop zero xs = 0
 pastStops stop (suc n) [] = 0
 pastStops stop (suc n) (x ∷ xs) = suc (cond (eqb x stop) (pastStops stop n xs) (pastStops stop (suc n) xs))
 
--- the end of the part that begins at a place: its stop, or the text's end
+-- the end of the part that begins at a place: its stop, or the text's end; past that, the place itself
 abbrev pub endOf : ℕ → List ℕ → ℕ → ℕ
 endOf stop xs start = start + stopAt stop (drop start xs)
 

@@ -28,7 +28,7 @@ pub fn hex_value(text: &[u8]) -> u64
     if is_hex(text) { value(text, 16) } else { 0 }
 }
 
-// A text of 1 to 19 decimal digits, which a u64 holds.
+// A text of 1 to 19 decimal digits, which a u64 holds; numbers from 10^19 on are written, and do not read back.
 pub fn is_decimal(text: &[u8]) -> bool
     ensures { λ r. ⌜ r ≡ isNumber 10 19 (now (text .entry)) ⌝ }
 {

@@ -6,7 +6,7 @@ ghost use Rattle.text.specs.Parts.{lf, front, parts, linesOf, pastStops,
 
 const LF: u8 = 10;
 
-// The end of the part that begins at `start`: the first stop from there on, or else the text's end.
+// The end of the part that begins at `start`: the first stop from there on, or else the text's end; past that, `start`.
 pub fn part_end(text: &[u8], start: usize, stop: u8) -> usize
     ensures { λ r. ⌜ r ≡ endOf stop (now (text .entry)) start ⌝ }
 {
