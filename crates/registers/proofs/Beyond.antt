@@ -1,12 +1,16 @@
--- What lies beyond a number's bits, or beyond a list's end, is nothing. Assumes nothing.
-use mathlib.Core.Path.{_≡_, refl, sym, _∙_, ap}
-use mathlib.Core.Bool.{false}
+-- What lies beyond a number's bits, or beyond a list's end, is nothing; and the lane of an offset. Assumes nothing.
+use mathlib.Core.Path.{_≡_, refl, sym, _∙_}
+use mathlib.Core.Bool.{Bool, true, false}
 use mathlib.Core.List.{List, [], _∷_}
 use Prim.Native.Nat.{ℕ, zero, suc, _%_, _^_, _≤_, _<_}
 use native.Mathlib.Nat.{lt-of-lt-of-le, one-mul, le-of-suc-le-suc, not-suc-le-zero, mod-mod}
 use lib.Bits.{bitAnd, and-comm, and-shifted, and-mask}
-use lib.ListN.{length, getD, set}
+use native.Mathlib.Omega.{arith}
+use borrow.Author.Tests.{eqb-true, eqb-false}
+use lib.Dec.{eqb}
+use lib.ListN.{length, getD}
 use lib.Pow.{pow-mono}
+use Rattle.bits.specs.Cell.{laneOf}
 use Rattle.machine.specs.Cells.{hasBit}
 
 -- a register of 16 bits has no bit past them
@@ -21,13 +25,18 @@ bit-beyond mask n h g = rw (apart mask n h g) refl
 pub low-ones : (written : ℕ) → bitAnd (written % 2 ^ 8) 255 ≡ bitAnd written 255
 low-ones written = and-mask (written % 2 ^ 8) 8 ∙ mod-mod written (2 ^ 8) ∙ sym (and-mask written 8)
 
--- reading past the end gives zero, and writing there does nothing
+-- reading past the end gives zero (that writing there does nothing is the kit's `set-out`)
 pub read-beyond : (bytes : List ℕ) (i : ℕ) → length bytes ≤ i → getD bytes i 0 ≡ 0
 read-beyond [] i h = refl
 read-beyond (x ∷ xs) zero h = absurd (not-suc-le-zero h)
 read-beyond (x ∷ xs) (suc i) h = read-beyond xs i (le-of-suc-le-suc h)
 
-pub write-beyond : (bytes : List ℕ) (i byte : ℕ) → length bytes ≤ i → set bytes i byte ≡ bytes
-write-beyond [] i byte h = refl
-write-beyond (x ∷ xs) zero byte h = absurd (not-suc-le-zero h)
-write-beyond (x ∷ xs) (suc i) byte h = ap (λ (ys : List ℕ). x ∷ ys) (write-beyond xs i byte (le-of-suc-le-suc h))
+-- the lane of an offset: the high byte's at an odd one
+pub lane-of : (offset : ℕ) → laneOf (eqb (offset % 2) 1) ≡ offset % 2
+lane-of offset = go (eqb (offset % 2) 1) refl
+  where
+    go : (t : Bool) → eqb (offset % 2) 1 ≡ t → laneOf t ≡ offset % 2
+    go true e = sym (eqb-true (offset % 2) 1 e)
+    go false e =
+        let even : offset % 2 ≡ 1 → ⊥ = eqb-false (offset % 2) 1 e in
+        omega arith

@@ -70,7 +70,7 @@ pub fn shown(width: u32, offset: u64, register: u32) -> u32
 fn byte_bits(offset: u64) -> u16
     ensures { λ r. ⌜ r ≡ placed offset 255 ⌝ }
 {
-    if offset % 2 == 1 { 0xff00 } else { 0x00ff }
+    bits::at_lane(offset % 2 == 1, 255)
 }
 
 // The register's bits that the access covers.

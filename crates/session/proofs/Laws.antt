@@ -4,6 +4,7 @@ use mathlib.Core.List.{List, [], _++_}
 use mathlib.Core.Path.{_≡_, refl, sym, _∙_, ap, ap₂}
 use mathlib.Core.Logic.{_⊎_, inl, inr}
 use Prim.Native.Nat.{ℕ, suc, _+_, _-_, _≤_, _<_}
+use native.Mathlib.Nat.{zero-add}
 use native.Mathlib.Omega.{arith}
 use borrow.Author.Tests.{ltb-true, ltb-false, leb-true, leb-false, le-leb, lt-leb, eq-eqb, ne-eqb}
 use lib.Dec.{eqb, ltb, leb}
@@ -155,7 +156,7 @@ module _ (m : Machine) (ls : List (List ℕ)) (l : List ℕ) where
   listing-written end first second p q e w f =
       let fit : leb (length (listingOf m ls)) (length l) ≡ true =
       le-leb (length (listingOf m ls)) (length l) (omega (arith, listing-length, p, leb-true (length body) (length l - 32) q)) in
-      (rw (fit, w, listing-length) refl, rw fit (f ∙ ap (λ (b : List ℕ). sets b 32 body) e ∙ sym (sets-then l 0 32 header body refl)))
+      (rw (fit, w, listing-length) refl, rw (zero-add, fit) (f ∙ ap (λ (b : List ℕ). sets b 32 body) e ∙ sym (sets-then l 0 32 header body refl)))
 
   pub no-room : (length l < 32) ⊎ (leb (length body) (length l - 32) ≡ false)
       → (answer.NoRoom ≡ answerFor (length (listingOf m ls)) (length l)) × (l ≡ textFor (listingOf m ls) l)
@@ -163,7 +164,7 @@ module _ (m : Machine) (ls : List (List ℕ)) (l : List ℕ) where
   no-room why =
       let short : leb (length (listingOf m ls)) (length l) ≡ false =
       lt-leb (length (listingOf m ls)) (length l) (go why) in
-      (rw short refl, rw short refl)
+      (rw short refl, rw (zero-add, short) refl)
     where
       go : (length l < 32) ⊎ (leb (length body) (length l - 32) ≡ false) → length l < length (listingOf m ls)
       go (inl p) = omega (arith, p, listing-length)

@@ -4,7 +4,6 @@ use mathlib.Core.List.{List, [], _∷_, _++_}
 use Prim.Native.Nat.{ℕ, suc, _+_, min}
 use lib.Dec.{eqb, leb}
 use lib.ListN.{length, drop}
-use lib.Seq.{sets}
 use Rattle.text.specs.Parts.{lf, front, linesOf, nextLine}
 use Rattle.platform.specs.Answer.{answerNumber}
 use Rattle.machine.specs.SetUp.{setUpOf}
@@ -17,7 +16,7 @@ use Rattle.script.specs.PlatformLine.{platformReads, homesAt, overrideIn, pairs
 use Rattle.script.specs.StepLine.{lineOf}
 use Rattle.script.specs.declared.step_line.Line.{Line}
 use Rattle.script.specs.declared.step_line.Line.the-variants as line
-use Rattle.listing.specs.Entry.{header, entry}
+use Rattle.listing.specs.Entry.{header, entry, putAt}
 use Rattle.session.specs.declared.SessionAnswer.{SessionAnswer}
 use Rattle.session.specs.declared.SessionAnswer.the-variants as answer
 
@@ -67,7 +66,7 @@ unfoldable pub answerFor : ℕ → ℕ → SessionAnswer
 answerFor long room = cond (leb long room) (answer.Written long) answer.NoRoom
 
 unfoldable pub textFor : List ℕ → List ℕ → List ℕ
-textFor text buffer = cond (leb (length text) (length buffer)) (sets buffer 0 text) buffer
+textFor text buffer = putAt buffer 0 text
 
 -- ---- the session
 

@@ -1,17 +1,18 @@
--- `registers::byte_bits` meets its contract: the high byte's bits at an odd offset, the low byte's at an even one. Assumes nothing.
-use mathlib.Core.Path.{_≡_}
-use Prim.Native.Nat.{_%_}
-use native.Mathlib.Omega.{arith}
+-- `registers::byte_bits` meets its contract: the lane by the offset's evenness is the lane by its remainder. Assumes nothing.
+use mathlib.Core.Path.{ap}
+use Prim.Native.Nat.{ℕ}
+use Rattle.bits.specs.Cell.{lane}
+use Rattle.registers.proofs.Beyond.{lane-of}
+use mathlib.Core.Path.{_∙_}
+use borrow.Author.Needs.{needs}
 use Rattle.registers.proofs.byte_bits.Statement.{statement}
 use Rattle.registers.proofs.byte_bits.Tie as tie
 
-returns : tie.Need-returns
-returns c = simp (c .if1 .taken)
+at-lane-requires : tie.Need-at-lane-requires
+at-lane-requires c κs = search needs
 
-returns-2 : tie.Need-returns-2
-returns-2 c =
-    let even : c .before .args .offset % 2 ≡ 0 = omega arith in
-    simp even
+returns : tie.Need-returns
+returns c = c .at-lane .ensures ∙ ap (λ (i : ℕ). lane i 255) (lane-of (c .before .args .offset))
 
 pub byte-bits-spec : {M : Type 1} → statement M
-byte-bits-spec = tie.close (tie.spec returns returns-2)
+byte-bits-spec = tie.close (tie.spec at-lane-requires returns)

@@ -3,7 +3,7 @@ use mathlib.Core.Path.{sym}
 use Prim.Native.Nat.{_≤_}
 use native.Mathlib.Omega.{arith}
 use lib.ListN.{length}
-use Rattle.registers.proofs.Beyond.{write-beyond}
+use lib.Seq.{set-out}
 use borrow.Author.Needs.{needs}
 use Rattle.registers.proofs.with_byte.Statement.{statement}
 use Rattle.registers.proofs.with_byte.Tie as tie
@@ -17,7 +17,7 @@ returns c = search needs
 returns-2 : tie.Need-returns-2
 returns-2 c =
     let end : length (c .before .args .t1) ≤ c .before .args .place = omega arith in
-    sym (write-beyond _ _ _ end)
+    sym (set-out _ _ _ end)
 
 pub with-byte-spec : {M : Type 1} → statement M
 with-byte-spec = tie.close (tie.spec array-write-bytes returns returns-2)
