@@ -66,7 +66,6 @@ fn put_tail(buf: &mut [u8], at: usize, value: u32, sci: bool, smi: bool, state: 
     put_state(buf, at + 13, state);
 }
 
-// How long the line of a step is.
 pub fn entry_length(k: u64, answer: Answer) -> usize
     ensures { λ r. ⌜ r ≡ entryLength k answer ⌝ }
 {

@@ -1,10 +1,10 @@
 // The platform line.
 use crate::hex_fields::hex_below;
+use text::digit_of;
 use text::field;
 use text::field_count;
 use text::field_hex;
 use text::field_is;
-use text::hex_value;
 use text::is_hex;
 ghost use mathlib.Core.Path.{_≡_};
 ghost use lib.ListN.{getD};
@@ -21,7 +21,6 @@ ghost use Rattle.script.specs.PlatformLine.{
   pairsIn,
 };
 
-// Whether the line is a platform line.
 pub fn platform_reads(line: &[u8]) -> bool
     ensures { λ r. ⌜ r ≡ platformReads (now (line .entry)) ⌝ }
 {
@@ -104,23 +103,12 @@ fn homes_at(line: &[u8], n: usize) -> u16
     }
 }
 
-// The digit that a byte shows; 16 where it shows none.
-fn digit(byte: u8) -> u8
-    ensures { λ r. ⌜ r ≡ digitOf byte ⌝ }
-{
-    let alone = [byte];
-    if is_hex(&alone) {
-        return hex_value(&alone) as u8;
-    }
-    16
-}
-
 // The digit at a place of a text; 16 past its end.
 fn digit_at(digits: &[u8], i: usize) -> u8
     ensures { λ r. ⌜ r ≡ digitOf (getD (now (digits .entry)) i 0) ⌝ }
 {
     if i < digits.len() {
-        digit(digits[i])
+        digit_of(digits[i])
     } else {
         16
     }

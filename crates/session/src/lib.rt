@@ -148,7 +148,6 @@ fn write_listing(buf: &mut [u8], m: Machine, source: &[u8], from: usize) -> Sess
     SessionAnswer::NoRoom
 }
 
-// Whether the platform line reads.
 fn platform_line_reads(source: &[u8]) -> bool
     ensures { λ r. ⌜ r ≡ platformLineReads (now (source .entry)) ⌝ }
 {

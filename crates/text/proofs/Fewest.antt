@@ -12,7 +12,7 @@ use lib.Dec.{ltb}
 use lib.ListN.{length}
 use Rattle.lists.specs.Any.{any}
 use Rattle.text.specs.Numbers.{digitOf, valueFrom, valueOf, allDigits, numberOf, digits, countWithin, digitCount, asWritten}
-use Rattle.text.proofs.Digits.{some, shorter, longer, value-below, number-of-digits, written-all, digits-of-value}
+use Rattle.text.proofs.Digits.{some, shorter, longer, value-below, number-of-digits, written-all, written-number, number-is-value, digits-of-value}
 
 pow-one : (b : ℕ) → b ^ 1 ≡ b
 pow-one b = pow-suc b 0 ∙ ap (λ (p : ℕ). p * b) (pow-zero b) ∙ one-mul b
@@ -130,3 +130,8 @@ module _ (b : ℕ) (two : 1 < b) where
   pub fewest-of-value : (x : ℕ) (xs : List ℕ) → asWritten b (x ∷ xs) ≡ true → (0 < digitOf x) ⊎ (length xs ≡ 0)
       → digits b (digitCount b (valueOf b (x ∷ xs))) (valueOf b (x ∷ xs)) ≡ x ∷ xs
   fewest-of-value x xs e w = rw (count-of-value x xs (written-all b (x ∷ xs) e) w) (digits-of-value b two (x ∷ xs) e)
+
+  pub fewest-of-number : (m x : ℕ) (xs : List ℕ) → suc (length xs) ≤ m → asWritten b (x ∷ xs) ≡ true → (0 < digitOf x) ⊎ (length xs ≡ 0)
+      → digits b (digitCount b (numberOf b m (x ∷ xs))) (numberOf b m (x ∷ xs)) ≡ x ∷ xs
+  fewest-of-number m x xs h e w =
+      rw (number-is-value b m (x ∷ xs) (written-number b m (x ∷ xs) (omega arith) h e)) (fewest-of-value x xs e w)

@@ -19,7 +19,6 @@ pub fn field_count(line: &[u8]) -> usize
     part_count(line, TAB)
 }
 
-// Whether the line has n fields.
 pub fn has_fields(line: &[u8], n: usize) -> bool
     ensures { λ r. ⌜ r ≡ eqb (length (fieldsOf (now (line .entry)))) n ⌝ }
 {
@@ -32,7 +31,6 @@ pub fn field<'a>(line: &'a [u8], n: usize) -> &'a [u8]
     part(line, TAB, n)
 }
 
-// Whether field n is this word.
 pub fn field_is(line: &[u8], n: usize, word: &[u8]) -> bool
     ensures { λ r. ⌜ r ≡ sameText (getD (fieldsOf (now (line .entry))) n []) (now (word .entry)) ⌝ }
 {

@@ -12,6 +12,7 @@ pub use fields::field_is_hex;
 pub use fields::has_fields;
 pub use numbers::decimal_digits;
 pub use numbers::decimal_value;
+pub use numbers::digit_of;
 pub use numbers::hex_digits;
 pub use numbers::hex_value;
 pub use numbers::is_decimal;

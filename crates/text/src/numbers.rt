@@ -2,6 +2,7 @@
 use crate::writes::store;
 ghost use mathlib.Core.Path.{_≡_};
 ghost use Prim.Native.Nat.{_≤_, _<_, _^_};
+ghost use lib.Dec.{ltb};
 ghost use lib.Seq.{sets};
 ghost use Rattle.text.specs.Numbers.{
   digitOf,
@@ -10,6 +11,8 @@ ghost use Rattle.text.specs.Numbers.{
   allDigits,
   isNumber,
   numberOf,
+  isDecimal,
+  decimalOf,
   digits,
   digitCount,
 };
@@ -28,16 +31,20 @@ pub fn hex_value(text: &[u8]) -> u64
     if is_hex(text) { value(text, 16) } else { 0 }
 }
 
-// A text of 1 to 19 decimal digits, which a u64 holds; numbers from 10^19 on are written, and do not read back.
+// A text of 1 to 20 decimal digits, below 2^64.
 pub fn is_decimal(text: &[u8]) -> bool
-    ensures { λ r. ⌜ r ≡ isNumber 10 19 (now (text .entry)) ⌝ }
+    ensures { λ r. ⌜ r ≡ isDecimal (now (text .entry)) ⌝ }
 {
-    is_number(text, 10, 19)
+    if is_number(text, 10, 20) {
+        fits(text, 10)
+    } else {
+        false
+    }
 }
 
 // The number that the text is; 0 where it is none.
 pub fn decimal_value(text: &[u8]) -> u64
-    ensures { λ r. ⌜ r ≡ numberOf 10 19 (now (text .entry)) ⌝ }
+    ensures { λ r. ⌜ r ≡ decimalOf (now (text .entry)) ⌝ }
 {
     if is_decimal(text) { value(text, 10) } else { 0 }
 }
@@ -71,27 +78,26 @@ pub fn write_decimal(buf: &mut [u8], at: usize, n: u64, width: usize)
 }
 
 // The digit that a byte shows; 16 where it shows none. 48 is `0`, 65 `A` and 97 `a`.
-fn digit_of(byte: u8) -> u64
+pub fn digit_of(byte: u8) -> u8
     ensures { λ r. ⌜ r ≡ digitOf byte ⌝ }
 {
-    let x = byte as u64;
-    if x < 48 {
+    if byte < 48 {
         return 16;
     }
-    if x < 58 {
-        return x - 48;
+    if byte < 58 {
+        return byte - 48;
     }
-    if x < 65 {
+    if byte < 65 {
         return 16;
     }
-    if x < 71 {
-        return x - 55;
+    if byte < 71 {
+        return byte - 55;
     }
-    if x < 97 {
+    if byte < 97 {
         return 16;
     }
-    if x < 103 {
-        return x - 87;
+    if byte < 103 {
+        return byte - 87;
     }
     16
 }
@@ -114,7 +120,7 @@ fn all_digits(text: &[u8], base: u64) -> bool
 {
     let mut i = 0;
     while i < text.len() {
-        if base <= digit_of(text[i]) {
+        if base <= digit_of(text[i]) as u64 {
             return false;
         }
         i += 1;
@@ -135,6 +141,24 @@ fn is_number(text: &[u8], base: u64, most: usize) -> bool
     all_digits(text, base)
 }
 
+// Whether a u64 holds the number that the digits show.
+fn fits(text: &[u8], base: u64) -> bool
+    requires { ⌜ 1 < base ⌝ }
+    ensures { λ r. ⌜ r ≡ ltb (valueOf base (now (text .entry))) (2 ^ 64) ⌝ }
+{
+    let mut n: u64 = 0;
+    let mut i = 0;
+    while i < text.len() {
+        let digit = digit_of(text[i]) as u64;
+        if (0xFFFF_FFFF_FFFF_FFFF - digit) / base < n {
+            return false;
+        }
+        n = n * base + digit;
+        i += 1;
+    }
+    true
+}
+
 // The number that the digits show.
 fn value(text: &[u8], base: u64) -> u64
     requires { ⌜ (1 < base) × (valueOf base (now text) < 2 ^ 64) ⌝ }
@@ -143,7 +167,7 @@ fn value(text: &[u8], base: u64) -> u64
     let mut n: u64 = 0;
     let mut i = 0;
     while i < text.len() {
-        n = n * base + digit_of(text[i]);
+        n = n * base + digit_of(text[i]) as u64;
         i += 1;
     }
     n

@@ -102,7 +102,6 @@ pub fn line_count(text: &[u8]) -> usize
     count
 }
 
-// Whether two texts are the same.
 pub fn same(a: &[u8], b: &[u8]) -> bool
     ensures { λ r. ⌜ r ≡ sameText (now (a .entry)) (now (b .entry)) ⌝ }
 {

@@ -7,16 +7,13 @@ use session::SessionAnswer;
 ghost use mathlib.Core.Path.{_≡_};
 ghost use lib.ListN.{length};
 
+const LIMIT: usize = 65536;
+
+// One byte more than a script may have, to see that it is longer.
 fn script_buffer() -> [u8; 65537]
     ensures { λ r. ⌜ 65537 ≡ length r ⌝ }
 {
     [0; 65537]
-}
-
-fn listing_buffer() -> [u8; 330000]
-    ensures { λ r. ⌜ 330000 ≡ length r ⌝ }
-{
-    [0; 330000]
 }
 
 fn main() {
@@ -30,10 +27,24 @@ fn main() {
     libc::close(file);
     let mut script = script_buffer();
     let script_length = io::read_full(STDIN_FILENO, &mut script);
-    let mut listing = listing_buffer();
+    if !at_end(script_length) {
+        say(b"the script cannot be read to its end\n");
+        return;
+    }
     let source = &script[..script_length];
+    // Room is judged last: no room for the listing means that all of it reads.
+    let mut listing = [0u8; 1];
     let answer = session::session(&table[..table_length], source, &mut listing);
     tell(answer, source);
+}
+
+// Whether nothing is left to read, after so many bytes; a script that fills its buffer is too long in any case.
+fn at_end(length: usize) -> bool {
+    if LIMIT < length {
+        return true;
+    }
+    let mut next = [0u8; 1];
+    libc::read(STDIN_FILENO, &mut next) == 0
 }
 
 fn say(text: &[u8]) {
@@ -46,11 +57,16 @@ fn count(n: usize) {
 
 fn tell(answer: SessionAnswer, source: &[u8]) {
     match answer {
-        SessionAnswer::Written(_) => {
-            say(b"all is well: ");
-            steps(text::line_count(source));
+        SessionAnswer::Written(_) => all_is_well(source),
+        SessionAnswer::NoRoom => all_is_well(source),
+        SessionAnswer::PlatformLine => {
+            say(b"line 1 does not read: ");
+            if passes_limit(source, 1) {
+                say(b"it passes byte 65,536\n");
+            } else {
+                say(b"it is no platform line\n");
+            }
         }
-        SessionAnswer::PlatformLine => say(b"line 1 does not read: it is no platform line\n"),
         SessionAnswer::SetUp(number) => {
             say(b"setting up is refused: ");
             count(number as usize);
@@ -60,16 +76,35 @@ fn tell(answer: SessionAnswer, source: &[u8]) {
         SessionAnswer::Line(line) => {
             say(b"line ");
             count(line);
-            say(b" does not read\n");
+            say(b" does not read");
+            if passes_limit(source, line) {
+                say(b": it passes byte 65,536");
+            }
+            say(b"\n");
         }
-        SessionAnswer::NoRoom => say(b"the listing is too long\n"),
     }
 }
 
 // All lines but the platform line are steps.
-fn steps(lines: usize) {
-    if 0 < lines {
-        count(lines - 1);
+fn all_is_well(source: &[u8]) {
+    let lines = text::line_count(source);
+    let steps = if 0 < lines { lines - 1 } else { 0 };
+    say(b"all is well: ");
+    count(steps);
+    if steps == 1 {
+        say(b" step\n");
+    } else {
         say(b" steps\n");
     }
+}
+
+// Whether a byte of a line, or its LF, lies past the limit.
+fn passes_limit(source: &[u8], line: usize) -> bool {
+    let mut end = 0;
+    let mut k = 0;
+    while k < line {
+        end = text::next_line(source, end);
+        k += 1;
+    }
+    LIMIT < end
 }

@@ -18,6 +18,7 @@ pub(crate) fn refusal(number: u8) {
         9 => say(b"GPE1's base is below GPE0's event count, or base plus count exceeds 256\n"),
         10 => say(b"SMI_CMD is nonzero and ACPI_ENABLE equals ACPI_DISABLE\n"),
         11 => say(b"a home has a bit outside its mask, or where that B block is absent\n"),
-        _ => say(b"a sleep pair exceeds 7, or two present states share theirs\n"),
+        12 => say(b"a sleep pair exceeds 7, or two present states share theirs\n"),
+        _ => say(b"no line of the table has this number\n"),
     }
 }

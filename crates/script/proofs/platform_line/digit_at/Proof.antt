@@ -5,11 +5,11 @@ use borrow.Author.Needs.{needs}
 use Rattle.script.proofs.platform_line.digit_at.Statement.{statement}
 use Rattle.script.proofs.platform_line.digit_at.Tie as tie
 
-shared-slice-read-digit : tie.Need-shared-slice-read-digit
-shared-slice-read-digit c = search needs
+shared-slice-read-digit-of : tie.Need-shared-slice-read-digit-of
+shared-slice-read-digit-of c = search needs
 
-digit-requires : tie.Need-digit-requires
-digit-requires c κs = search needs
+digit-of-requires : tie.Need-digit-of-requires
+digit-of-requires c κs = search needs
 
 returns : tie.Need-returns
 returns c = search needs
@@ -19,4 +19,4 @@ unfolding digitOf
 returns-2 c = rw (List·getD-eq-default (c .before .before .args .digits .now) 0 (c .if1 .left))
 
 pub digit-at-spec : {M : Type 1} → statement M
-digit-at-spec = tie.close (tie.spec shared-slice-read-digit digit-requires returns returns-2)
+digit-at-spec = tie.close (tie.spec shared-slice-read-digit-of digit-of-requires returns returns-2)

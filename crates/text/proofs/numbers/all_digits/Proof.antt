@@ -26,6 +26,9 @@ shared-slice-read-digit-of c = omega arith
 digit-of-requires : tie.Need-digit-of-requires Inv-loop μ-loop
 digit-of-requires c κs = search needs
 
+cast-if1 : tie.Need-cast-if1 Inv-loop μ-loop
+cast-if1 c = search needs
+
 returns : tie.Need-returns Inv-loop μ-loop
 returns c =
     let at : _ = c .before .before .before .before in
@@ -59,6 +62,7 @@ all-digits-spec =
     loop-holds
     shared-slice-read-digit-of
     digit-of-requires
+    cast-if1
     returns
     add-i
     loop-less

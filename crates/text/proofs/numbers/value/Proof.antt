@@ -32,6 +32,9 @@ shared-slice-read-digit-of c = omega arith
 digit-of-requires : tie.Need-digit-of-requires Inv-loop μ-loop
 digit-of-requires c κs = search needs
 
+cast-n : tie.Need-cast-n Inv-loop μ-loop
+cast-n c = search needs
+
 add-n : tie.Need-add-n Inv-loop μ-loop
 add-n c =
     let at : _ = c .before .before .before in
@@ -67,6 +70,7 @@ value-spec =
     mul-n
     shared-slice-read-digit-of
     digit-of-requires
+    cast-n
     add-n
     add-i
     loop-less
