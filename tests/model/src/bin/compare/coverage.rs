@@ -1,0 +1,585 @@
+//! What the sessions reached, counted on the model. A row that stays at 0 is a failure.
+
+use std::collections::HashMap;
+
+use model::{
+    read_script, set_up, set_up_answer, Gpe, Hardware, Machine, Step, A, B, GBL_RLS, HOLD_LIMIT, LIMIT, PCIEXP_WAKE,
+    PWRBTN, RTC, SLPBTN, SLP_EN, TMR,
+};
+
+use crate::damage::{SCRIPTS, TABLES};
+use crate::halves::{gap_step, moved, write_backs};
+use crate::sessions::{join, lines, Kind, Session};
+
+pub struct Coverage {
+    pub rows: Vec<(String, u64)>,
+    places: HashMap<String, usize>,
+    pub whole_sessions: u64,
+    pub whole_steps: u64,
+    pub steps: u64,
+}
+
+/// Each step's word, and the answers it can get.
+const ANSWERS: &[(&str, &[u8])] = &[
+    ("read", &[0, 20, 21, 23, 24]),
+    ("write", &[0, 20, 21, 22, 23, 24, 25, 26, 27]),
+    ("press", &[0, 28, 30]),
+    ("release", &[0, 28, 30]),
+    ("sleep", &[0, 28]),
+    ("alarm", &[0, 28]),
+    ("wake", &[0, 28]),
+    ("master", &[0, 20]),
+    ("unlock", &[0, 20]),
+    ("event", &[0, 29]),
+    ("tick", &[0]),
+    ("take", &[0, 20, 31]),
+    ("drop", &[0, 20]),
+];
+
+const WAKERS: &[&str] = &["press", "sleep", "alarm", "GPE0 event", "GPE1 event", "wake"];
+
+const OTHERS: &[&str] = &[
+    "press leaves S5 entered by a write",
+    "press leaves S5 entered by the override",
+    "asleep: sleep, not enabled",
+    "asleep: alarm, not enabled",
+    "asleep: event, not enabled",
+    "asleep: wake, disabled",
+    "asleep: release",
+    "asleep: tick",
+    "S4: alarm, enabled, without flag 7",
+    "S0: wake",
+    "S5: sleep",
+    "S5: alarm",
+    "S5: event",
+    "S5: wake",
+    "S5: release",
+    "S5: tick",
+    "completing: wakes at once by PWRBTN alone",
+    "completing: wakes at once by SLPBTN alone",
+    "completing: wakes at once by RTC alone",
+    "completing: wakes at once by GPE0 alone",
+    "completing: wakes at once by GPE1 alone",
+    "completing: sleeps on, a bit set but not enabled",
+    "completing: sleeps on, TMR or GBL set and enabled",
+    "completing: sleeps on in S4, RTC pending, without flag 7",
+    "completing: S5, an enabled bit set",
+    "completing: with a low byte",
+    "completing: 27 by S0's pair",
+    "completing: 27 by another pair",
+    "arming: SLP_EN at A arms",
+    "arming: SLP_EN at A while armed",
+    "arming: disarmed at A",
+    "arming: disarmed at B",
+    "arming: SLP_EN at B unarmed",
+    "arming: events while armed",
+    "tick 0",
+    "tick FFFFFFFF",
+    "tick without a timer",
+    "24 bits: top bit rises",
+    "24 bits: top bit falls",
+    "24 bits: turns hide each other",
+    "32 bits: top bit rises",
+    "32 bits: top bit falls",
+    "32 bits: turns hide each other",
+    "hold: one tick short of 4 seconds",
+    "hold: override",
+    "hold: override with ticks left over",
+    "hold: stops, no override fitted",
+    "hold: grows after a wake that was no press",
+    "command: enable, SCI_EN clear, enables set",
+    "command: enable, SCI_EN set, enables set",
+    "command: disable",
+    "command: another",
+    "release flag: raised at A",
+    "release flag: raised at B",
+    "release flag: GBL_RLS away from its home",
+    "release flag: dropped",
+    "release flag: none to drop",
+    "line: SCI",
+    "line: SMI by an event",
+    "line: SMI by a command",
+    "line: SMI by the release flag",
+    "line: down outside S0, with an event there",
+    "split: event read, gap",
+    "split: event write, gap",
+    "split: control read, gap",
+    "split: control write, gap",
+    "split: status read, an alarm in the gap",
+    "split: status write, an alarm in the gap",
+    "split: status written back",
+    "split: gap steps moved before",
+    "split: gap steps moved after",
+    "split: raised bits kept by a write-back",
+    "narrow tables",
+];
+
+impl Coverage {
+    pub fn new() -> Coverage {
+        let mut names: Vec<String> = Vec::new();
+        names.extend((0..=12).map(|answer| format!("set up {answer}")));
+        names.extend([0].into_iter().chain(20..=31).map(|answer| format!("answer {answer}")));
+        for (word, answers) in ANSWERS {
+            names.extend(answers.iter().map(|answer| format!("{word}: {answer}")));
+        }
+        names.extend((0..=5).map(|state| format!("state S{state}")));
+        for state in 1..=5 {
+            names.extend(["A", "B"].map(|block| format!("completing: S{state} at {block}")));
+        }
+        for state in 1..=4 {
+            names.extend(WAKERS.iter().map(|waker| format!("S{state}: woken by {waker}")));
+            names.push(format!("S{state}: woken at once"));
+        }
+        for access in ["read", "write"] {
+            for block in ["PM1a", "PM1b"] {
+                for register in ["status", "enable", "control"] {
+                    names.extend(
+                        ["low byte", "high byte", "word"].map(|part| format!("{access} {block} {register} {part}")),
+                    );
+                }
+            }
+            for block in ["GPE0", "GPE1"] {
+                names.extend(["status", "enable"].map(|half| format!("{access} {block} {half}")));
+            }
+            names.extend(["PM2", "SMI_CMD"].map(|register| format!("{access} {register}")));
+        }
+        names.push("read timer".to_string());
+        names.extend(OTHERS.iter().map(|name| name.to_string()));
+        names.extend(TABLES.iter().map(|table| format!("table: {}", table.name)));
+        names.extend(SCRIPTS.iter().map(|script| format!("script: {}", script.name)));
+        let places = names.iter().cloned().enumerate().map(|(place, name)| (name, place)).collect();
+        let rows = names.into_iter().map(|name| (name, 0)).collect();
+        Coverage { rows, places, whole_sessions: 0, whole_steps: 0, steps: 0 }
+    }
+
+    fn count(&mut self, name: &str) {
+        self.add_to(name, 1);
+    }
+
+    fn add_to(&mut self, name: &str, times: u64) {
+        let place = *self.places.get(name).unwrap_or_else(|| panic!("no row {name:?}"));
+        self.rows[place].1 += times;
+    }
+
+    fn count_if(&mut self, holds: bool, name: &str) {
+        if holds {
+            self.count(name);
+        }
+    }
+
+    pub fn add(&mut self, other: &Coverage) {
+        for (row, more) in self.rows.iter_mut().zip(&other.rows) {
+            row.1 += more.1;
+        }
+        self.whole_sessions += other.whole_sessions;
+        self.whole_steps += other.whole_steps;
+        self.steps += other.steps;
+    }
+
+    /// Counts a session; an error where the model does not see in it what it was made for.
+    pub fn session(&mut self, session: &Session) -> Result<(), String> {
+        let script = read_script(&session.script);
+        let answer = set_up_answer(&session.table, &session.script);
+        match session.kind {
+            Kind::Whole => self.whole_sessions += 1,
+            Kind::Narrow => self.count("narrow tables"),
+            Kind::Table { name, answer: expected } => {
+                self.count(&format!("table: {name}"));
+                if expected.is_some() && answer != expected {
+                    return Err(format!("table: {name}: setting up gives {answer:?}, not {expected:?}"));
+                }
+            }
+            Kind::Script { name, reads } => {
+                self.count(&format!("script: {name}"));
+                if script.is_some() != reads {
+                    return Err(format!("script: {name}: reads, or does not, against its row"));
+                }
+            }
+        }
+        let (Some((settings, steps)), Some(answer)) = (script, answer) else {
+            return Ok(());
+        };
+        self.count(&format!("set up {answer}"));
+        let lent = &session.table[..session.table.len().min(LIMIT)];
+        let Ok(mut machine) = set_up(lent, &settings) else {
+            return Ok(());
+        };
+        let mut history = History::default();
+        for step in &steps {
+            let before = machine.clone();
+            let (answer, value) = machine.step(step);
+            self.step(&before, step, answer, &machine);
+            self.history(&mut history, &before, step, answer, value, &machine);
+        }
+        self.steps += steps.len() as u64;
+        if matches!(session.kind, Kind::Whole) {
+            self.whole_steps += steps.len() as u64;
+        }
+        Ok(())
+    }
+
+    /// Demand 3 on a whole session: checks it on the model, and gives the moved list's script.
+    pub fn halves(&mut self, session: &Session) -> Result<Option<Vec<u8>>, String> {
+        if !matches!(session.kind, Kind::Whole) {
+            return Ok(None);
+        }
+        let (settings, steps) = read_script(&session.script).ok_or("a whole script reads")?;
+        let machine = set_up(&session.table, &settings).map_err(|_| "a whole platform is accepted")?;
+        let moved = moved(&machine, &settings, &steps);
+        moved.check(&machine, &steps)?;
+        self.add_to("split: gap steps moved before", moved.before);
+        self.add_to("split: gap steps moved after", moved.after);
+        self.add_to("split: raised bits kept by a write-back", write_backs(&machine, &steps)?);
+        Ok((moved.steps != steps).then(|| join(&lines(&settings, &moved.steps))))
+    }
+
+    fn step(&mut self, before: &Machine, step: &Step, answer: u8, after: &Machine) {
+        let word = word(step);
+        self.count(&format!("answer {answer}"));
+        self.count(&format!("{word}: {answer}"));
+        self.count(&format!("state S{}", after.state));
+        self.lines(after);
+        if let Step::Write { port, data, .. } = *step {
+            if let Some((block, written)) = control_write(before, step) {
+                self.control(before, block, written, answer, after);
+            }
+            let away = control_block(&before.hardware, port).is_some_and(|(block, offset)| {
+                offset == 0 && u64::from(GBL_RLS & !before.hardware.control_visible[block]) & data != 0
+            });
+            self.count_if(away && answer == 0, "release flag: GBL_RLS away from its home");
+        }
+        if answer != 0 {
+            return;
+        }
+        match *step {
+            Step::Read { port, width } | Step::Write { port, width, .. } => {
+                self.count(&format!("{word} {}", register(&before.hardware, port, width)));
+            }
+            Step::Tick(n) => self.ticks(before, n, after),
+            Step::Take => self.command(before),
+            Step::Drop => {
+                self.count(if before.release { "release flag: dropped" } else { "release flag: none to drop" });
+            }
+            _ => {}
+        }
+        self.outside_s0(before, step, after);
+    }
+
+    fn lines(&mut self, after: &Machine) {
+        let event = after.status & after.enable & 0x0721 != 0 || after.gpe.iter().any(Gpe::event);
+        self.count_if(after.sci(), "line: SCI");
+        if after.state != 0 {
+            self.count_if(event, "line: down outside S0, with an event there");
+        } else if after.smi() {
+            let by_event = event && !after.sci_en;
+            self.count_if(by_event, "line: SMI by an event");
+            self.count_if(!by_event && after.command.is_some() && !after.release, "line: SMI by a command");
+            self.count_if(!by_event && after.command.is_none() && after.release, "line: SMI by the release flag");
+        }
+    }
+
+    /// An accepted step outside S0, and PCIe wake in it.
+    fn outside_s0(&mut self, before: &Machine, step: &Step, after: &Machine) {
+        let word = word(step);
+        match before.state {
+            0 => self.count_if(*step == Step::Wake, "S0: wake"),
+            5 if after.state == 5 => self.count(&format!("S5: {word}")),
+            5 => {}
+            state if after.state == 0 => {
+                let waker = match *step {
+                    Step::Event(number) if number < before.hardware.gpe[0].events() => "GPE0 event",
+                    Step::Event(_) => "GPE1 event",
+                    _ => word,
+                };
+                self.count(&format!("S{state}: woken by {waker}"));
+            }
+            _ => match step {
+                Step::Release | Step::Tick(_) => self.count(&format!("asleep: {word}")),
+                Step::Wake => self.count("asleep: wake, disabled"),
+                Step::Alarm if before.enable & RTC != 0 => self.count("S4: alarm, enabled, without flag 7"),
+                _ => self.count(&format!("asleep: {word}, not enabled")),
+            },
+        }
+    }
+
+    /// A write of a control block's high byte in S0.
+    fn control(&mut self, before: &Machine, block: usize, written: Written, answer: u8, after: &Machine) {
+        let slp_en = written.word & SLP_EN != 0;
+        let has_b = before.hardware.control[B].present();
+        let slp_typ = (written.word >> 10 & 7) as u8;
+        if !slp_en {
+            self.count_if(before.armed, if block == A { "arming: disarmed at A" } else { "arming: disarmed at B" });
+        } else if block == A && has_b {
+            self.count(if before.armed { "arming: SLP_EN at A while armed" } else { "arming: SLP_EN at A arms" });
+        } else if block == B && !before.armed {
+            self.count("arming: SLP_EN at B unarmed");
+        } else if answer == 27 {
+            let pair = if block == A { (slp_typ, 0) } else { (before.slp_typ[A], slp_typ) };
+            let s0 = before.hardware.states[0].is_some_and(|(a, b)| a == pair.0 && (b == pair.1 || !has_b));
+            self.count(if s0 { "completing: 27 by S0's pair" } else { "completing: 27 by another pair" });
+        } else {
+            self.completing(block, written, after);
+        }
+    }
+
+    fn completing(&mut self, block: usize, written: Written, after: &Machine) {
+        let [a, b] = after.slp_typ;
+        let has_b = after.hardware.control[B].present();
+        let names = |pair: &Option<(u8, u8)>| pair.is_some_and(|pair| pair.0 == a && (pair.1 == b || !has_b));
+        let state = 1 + after.hardware.states[1..].iter().position(names).expect("a state is named");
+        self.count(&format!("completing: S{state} at {}", ["A", "B"][block]));
+        self.count_if(written.low && written.word & 0xFF != 0, "completing: with a low byte");
+        let pending = after.status & after.enable;
+        let gpe = after.gpe.map(|gpe| gpe.event());
+        let buttons = pending & (PWRBTN | SLPBTN | RTC);
+        if state == 5 {
+            self.count_if(buttons != 0 || gpe[0] || gpe[1], "completing: S5, an enabled bit set");
+        } else if after.state == 0 {
+            self.count(&format!("S{state}: woken at once"));
+            match (buttons, gpe) {
+                (PWRBTN, [false, false]) => self.count("completing: wakes at once by PWRBTN alone"),
+                (SLPBTN, [false, false]) => self.count("completing: wakes at once by SLPBTN alone"),
+                (RTC, [false, false]) => self.count("completing: wakes at once by RTC alone"),
+                (0, [true, false]) => self.count("completing: wakes at once by GPE0 alone"),
+                (0, [false, true]) => self.count("completing: wakes at once by GPE1 alone"),
+                _ => {}
+            }
+        } else {
+            let set = after.status & (PWRBTN | SLPBTN | RTC);
+            self.count_if(set & !after.enable != 0, "completing: sleeps on, a bit set but not enabled");
+            self.count_if(pending & 0x0021 != 0, "completing: sleeps on, TMR or GBL set and enabled");
+            self.count_if(buttons == RTC, "completing: sleeps on in S4, RTC pending, without flag 7");
+        }
+    }
+
+    fn ticks(&mut self, before: &Machine, n: u32, after: &Machine) {
+        self.count_if(n == 0, "tick 0");
+        self.count_if(n == u32::MAX, "tick FFFFFFFF");
+        if before.state != 0 || n == 0 {
+            return;
+        }
+        let bits = before.hardware.counter_bits;
+        let half = 1u64 << (bits - 1);
+        self.count_if(!before.hardware.timer.present(), "tick without a timer");
+        if after.state == 0 && before.hardware.fitted & TMR != 0 {
+            let turns = (u64::from(before.counter) + u64::from(n)) / half - u64::from(before.counter) / half;
+            let risen = u64::from(after.counter) & half != 0;
+            if turns % 2 == 1 {
+                self.count(&format!("{bits} bits: top bit {}", if risen { "rises" } else { "falls" }));
+            } else if turns > 0 {
+                self.count(&format!("{bits} bits: turns hide each other"));
+            }
+        }
+        if before.down {
+            self.count_if(after.state == 0 && after.hold == HOLD_LIMIT - 1, "hold: one tick short of 4 seconds");
+            let reached = before.hold < HOLD_LIMIT && after.hold == HOLD_LIMIT;
+            self.count_if(reached && after.state == 0, "hold: stops, no override fitted");
+            self.count_if(after.state == 5, "hold: override");
+            self.count_if(after.state == 5 && n > HOLD_LIMIT - before.hold, "hold: override with ticks left over");
+        }
+    }
+
+    fn command(&mut self, before: &Machine) {
+        let hardware = &before.hardware;
+        if before.command == Some(hardware.acpi_enable) {
+            let name = ["command: enable, SCI_EN clear, enables set", "command: enable, SCI_EN set, enables set"];
+            self.count_if(before.enable & !PCIEXP_WAKE != 0, name[usize::from(before.sci_en)]);
+        } else if before.command == Some(hardware.acpi_disable) {
+            self.count("command: disable");
+        } else {
+            self.count("command: another");
+        }
+    }
+
+    /// What is seen over several steps.
+    fn history(&mut self, seen: &mut History, before: &Machine, step: &Step, answer: u8, value: u32, after: &Machine) {
+        let hardware = &before.hardware;
+        if !before.release && after.release {
+            let at_b = hardware.control_visible[B] & GBL_RLS != 0;
+            self.count(if at_b { "release flag: raised at B" } else { "release flag: raised at A" });
+        }
+        if before.state == 0 && after.state == 5 {
+            seen.overridden = matches!(step, Step::Tick(_));
+        }
+        if before.state == 5 && after.state == 0 {
+            let rows = ["press leaves S5 entered by a write", "press leaves S5 entered by the override"];
+            self.count(rows[usize::from(seen.overridden)]);
+        }
+        if (1..=4).contains(&before.state) && after.state == 0 && before.down && before.hold > 0 {
+            seen.woken_down = *step != Step::Press;
+        }
+        if seen.woken_down && after.hold > before.hold {
+            self.count("hold: grows after a wake that was no press");
+            seen.woken_down = false;
+        }
+        if !after.down {
+            seen.woken_down = false;
+        }
+        if gap_step(step) {
+            self.count_if(before.armed && answer == 0, "arming: events while armed");
+            seen.gap += 1;
+            seen.alarm |= *step == Step::Alarm;
+            return;
+        }
+        let half = Half::of(hardware, step, value);
+        match (&half, &seen.first) {
+            (Some(second), Some(first)) if second.follows(first) => {
+                if seen.gap > 0 {
+                    let group = if first.event { "event" } else { "control" };
+                    let access = if first.writes { "write" } else { "read" };
+                    self.count(&format!("split: {group} {access}, gap"));
+                    if seen.alarm && first.event && first.offset < 2 {
+                        self.count(&format!("split: status {access}, an alarm in the gap"));
+                    }
+                }
+                let values = (first.offset, first.width, first.value, second.value);
+                if !first.event || first.offset >= 2 {
+                    seen.status_read = None;
+                } else if first.writes {
+                    self.count_if(seen.status_read == Some(values), "split: status written back");
+                    seen.status_read = None;
+                } else {
+                    seen.status_read = Some(values);
+                }
+            }
+            (Some(first), _) if first.block == A && first.event && first.writes => {}
+            _ => seen.status_read = None,
+        }
+        seen.first = half;
+        seen.gap = 0;
+        seen.alarm = false;
+    }
+}
+
+#[derive(Default)]
+struct History {
+    /// S5 was entered by the override.
+    overridden: bool,
+    /// A wake other than a press found the button down.
+    woken_down: bool,
+    /// The last bus step at a PM1 block, and the gap since.
+    first: Option<Half>,
+    gap: u32,
+    alarm: bool,
+    /// Offset, width and both values of a split read of status, nothing but gaps since.
+    status_read: Option<(u64, u32, u64, u64)>,
+}
+
+/// A bus step at a PM1 block.
+struct Half {
+    event: bool,
+    block: usize,
+    offset: u64,
+    width: u32,
+    writes: bool,
+    /// What was read or written.
+    value: u64,
+}
+
+impl Half {
+    fn of(hardware: &Hardware, step: &Step, value: u32) -> Option<Half> {
+        let (port, width, writes, value) = match *step {
+            Step::Read { port, width } => (port, width, false, value.into()),
+            Step::Write { port, width, data } => (port, width, true, data),
+            _ => return None,
+        };
+        for (event, blocks) in [(true, hardware.event), (false, hardware.control)] {
+            for block in [A, B] {
+                let offset = port.wrapping_sub(blocks[block].start.into());
+                if offset < u64::from(blocks[block].length) {
+                    return Some(Half { event, block, offset, width, writes, value });
+                }
+            }
+        }
+        None
+    }
+
+    fn follows(&self, first: &Half) -> bool {
+        let same = (self.event, self.offset, self.width, self.writes)
+            == (first.event, first.offset, first.width, first.writes);
+        same && first.block == A && self.block == B
+    }
+}
+
+fn word(step: &Step) -> &'static str {
+    match step {
+        Step::Read { .. } => "read",
+        Step::Write { .. } => "write",
+        Step::Press => "press",
+        Step::Release => "release",
+        Step::Sleep => "sleep",
+        Step::Alarm => "alarm",
+        Step::Wake => "wake",
+        Step::Master => "master",
+        Step::Unlock => "unlock",
+        Step::Event(_) => "event",
+        Step::Tick(_) => "tick",
+        Step::Take => "take",
+        Step::Drop => "drop",
+    }
+}
+
+fn control_block(hardware: &Hardware, port: u64) -> Option<(usize, u64)> {
+    [A, B].into_iter().find_map(|block| {
+        let offset = port.wrapping_sub(hardware.control[block].start.into());
+        (offset < u64::from(hardware.control[block].length)).then_some((block, offset))
+    })
+}
+
+/// The word that a write puts in place, and whether it covers the low byte.
+struct Written {
+    word: u16,
+    low: bool,
+}
+
+/// A write in S0 that covers a control high byte and is refused by no lower number than 27.
+fn control_write(before: &Machine, step: &Step) -> Option<(usize, Written)> {
+    let Step::Write { port, width, data } = *step else {
+        return None;
+    };
+    let (block, offset) = control_block(&before.hardware, port)?;
+    if before.state != 0 {
+        return None;
+    }
+    match (width, offset, data) {
+        (2, 0, 0..=0xFFFF) => Some((block, Written { word: data as u16, low: true })),
+        (1, 1, 0..=0xFF) => Some((block, Written { word: (data as u16) << 8, low: false })),
+        _ => None,
+    }
+}
+
+/// The register of an accepted access.
+fn register(hardware: &Hardware, port: u64, width: u32) -> String {
+    let at = |block: model::Block| {
+        let offset = port.wrapping_sub(block.start.into());
+        (offset < u64::from(block.length)).then_some(offset)
+    };
+    let part = |offset: u64| match (width, offset % 2) {
+        (2, _) => "word",
+        (_, 0) => "low byte",
+        _ => "high byte",
+    };
+    for (block, name) in [(A, "PM1a"), (B, "PM1b")] {
+        if let Some(offset) = at(hardware.event[block]) {
+            let half = if offset < 2 { "status" } else { "enable" };
+            return format!("{name} {half} {}", part(offset));
+        }
+        if let Some(offset) = at(hardware.control[block]) {
+            return format!("{name} control {}", part(offset));
+        }
+    }
+    for (block, name) in [(0, "GPE0"), (1, "GPE1")] {
+        if let Some(offset) = at(hardware.gpe[block]) {
+            let half = if offset < u64::from(hardware.gpe[block].length / 2) { "status" } else { "enable" };
+            return format!("{name} {half}");
+        }
+    }
+    let name = if at(hardware.pm2).is_some() {
+        "PM2"
+    } else if at(hardware.timer).is_some() {
+        "timer"
+    } else {
+        "SMI_CMD"
+    };
+    name.to_string()
+}

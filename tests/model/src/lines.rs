@@ -1,0 +1,25 @@
+//! The event output, and the lines SCI and SMI.
+
+use crate::cells::OUTPUT;
+use crate::{Gpe, Machine};
+
+impl Gpe {
+    /// Some general event is set and enabled.
+    pub fn event(&self) -> bool {
+        u64::from_le_bytes(self.status) & u64::from_le_bytes(self.enable) != 0
+    }
+}
+
+impl Machine {
+    fn event(&self) -> bool {
+        self.status & self.enable & OUTPUT != 0 || self.gpe.iter().any(Gpe::event)
+    }
+
+    pub fn sci(&self) -> bool {
+        self.state == 0 && self.sci_en && self.event()
+    }
+
+    pub fn smi(&self) -> bool {
+        self.state == 0 && ((!self.sci_en && self.event()) || self.command.is_some() || self.release)
+    }
+}

@@ -1,0 +1,143 @@
+//! Document 01's worked session and its "Values on each side"; and that ticks at once are ticks one by one.
+
+use crate::*;
+
+const EVENT: u64 = 0x400;
+const CONTROL: u64 = 0x404;
+
+/// The worked session's table, with these flags.
+fn table(flags: u32) -> Vec<u8> {
+    let mut table = vec![0; 116];
+    table[..4].copy_from_slice(b"FACP");
+    table[4] = 116;
+    table[8] = 1;
+    table[52] = 0xE1;
+    table[53] = 0x1E;
+    for (at, address) in
+        [(48, 0xB2u32), (56, 0x400), (60, 0x440), (64, 0x404), (68, 0x444), (76, 0x408), (80, 0x420), (112, flags)]
+    {
+        table[at..at + 4].copy_from_slice(&address.to_le_bytes());
+    }
+    table[88..93].copy_from_slice(&[4, 2, 0, 4, 4]);
+    sum(&mut table);
+    table
+}
+
+fn sum(table: &mut [u8]) {
+    table[9] = 0;
+    table[9] = table.iter().fold(0u8, |sum, byte| sum.wrapping_sub(*byte));
+}
+
+/// All event bits fitted, all homes A, override fitted.
+fn machine(flags: u32) -> Machine {
+    let settings = Settings { event_homes: 0, control_homes: 0, power_override: true, states: [None; 6] };
+    set_up(&table(flags | 1 << 14), &settings).unwrap()
+}
+
+fn status_after(port: u64, width: u32, data: u64) -> u16 {
+    let mut machine = machine(0);
+    machine.status = 0xC731;
+    assert_eq!(machine.step(&Step::Write { port, width, data }), (0, 0));
+    machine.status
+}
+
+#[test]
+fn worked_session() {
+    let script =
+        "platform 0400 0000 0 00 - - 52 - 70\nw B2 1 E1\ntake\nw 402 2 100\nw 442 2 400\nalarm\nr 400 2\nr 440 2\n\
+                  w 404 2 3400\nw 444 2 2800\nr 400 2\n";
+    let listing = "step answer value sci smi state\n1 0 00000000 0 1 S0\n2 0 000000E1 0 0 S0\n3 0 00000000 0 0 S0\n\
+                   4 0 00000000 0 0 S0\n5 0 00000000 1 0 S0\n6 0 00000000 1 0 S0\n7 0 00000400 1 0 S0\n\
+                   8 0 00000000 1 0 S0\n9 0 00000000 1 0 S0\n10 0 00008000 1 0 S0\n";
+    let tabbed = |text: &str| text.replace(' ', "\t").into_bytes();
+    assert_eq!(session(&table(0), &tabbed(script)), Some(tabbed(listing)));
+}
+
+#[test]
+fn status_writes() {
+    assert_eq!(status_after(EVENT, 2, 0xFFFF), 0x0000);
+    assert_eq!(status_after(EVENT, 2, 0x0100), 0xC631);
+    assert_eq!(status_after(EVENT, 2, 0x0000), 0xC731);
+    assert_eq!(status_after(EVENT + 1, 1, 0xFF), 0x0031);
+}
+
+#[test]
+fn enable_and_control_writes() {
+    let mut machine = machine(0);
+    machine.sci_en = true;
+    for (port, shown) in [(EVENT + 2, 0x4721), (CONTROL, 0x1C03)] {
+        machine.step(&Step::Write { port, width: 2, data: 0xFFFF });
+        assert_eq!(machine.step(&Step::Read { port, width: 2 }), (0, shown));
+    }
+    assert_eq!(machine.step(&Step::Read { port: 65_536, width: 1 }), (23, 0));
+}
+
+#[test]
+fn counter_turns() {
+    for (flags, before, n, after, turns) in [
+        (0, 8_388_607, 1, 8_388_608, true),
+        (0, 16_777_215, 1, 0, true),
+        (0, 0, 8_388_607, 8_388_607, false),
+        (0, 8_388_607, 0, 8_388_607, false),
+        (1 << 8, 8_388_607, 1, 8_388_608, false),
+    ] {
+        let mut machine = machine(flags);
+        machine.counter = before;
+        machine.step(&Step::Tick(n));
+        assert_eq!((machine.counter, machine.status & TMR != 0), (after, turns));
+    }
+}
+
+#[test]
+fn held_button() {
+    let mut machine = machine(0);
+    machine.step(&Step::Press);
+    machine.step(&Step::Tick(HOLD_LIMIT - 1));
+    assert_eq!((machine.hold, machine.state()), (HOLD_LIMIT - 1, 0));
+    machine.step(&Step::Tick(5));
+    assert_eq!((machine.counter, machine.status, machine.state()), (HOLD_LIMIT, TMR, 5));
+}
+
+#[test]
+fn table_of_115_bytes() {
+    let settings = Settings { event_homes: 0, control_homes: 0, power_override: false, states: [None; 6] };
+    assert!(set_up(&table(0), &settings).is_ok());
+    assert_eq!(set_up(&table(0)[..115], &settings), Err(1));
+}
+
+/// Two turns of the top bit in one step do not hide each other.
+#[test]
+fn two_turns() {
+    let mut singly = machine(0);
+    singly.counter = 5;
+    let mut at_once = singly.clone();
+    singly.tick_singly(1 << 24);
+    at_once.tick_at_once(1 << 24);
+    assert_eq!((singly.counter, singly.status), (5, TMR));
+    assert_eq!(singly, at_once);
+}
+
+#[test]
+fn ticks_at_once_are_ticks() {
+    let mut random = 1u64;
+    let mut below = |limit: u32| {
+        random = random.wrapping_mul(6_364_136_223_846_793_005).wrapping_add(1_442_695_040_888_963_407);
+        (random >> 33) as u32 % limit
+    };
+    for _ in 0..2_000 {
+        let mut singly = machine(below(2) << 8);
+        let size = 1u64 << singly.hardware.counter_bits;
+        let turn = if below(2) == 0 { size } else { size / 2 };
+        singly.counter = (turn - u64::from(below(3_000)) % size) as u32;
+        singly.counter &= (size - 1) as u32;
+        singly.down = below(2) == 0;
+        singly.hardware.power_override = below(2) == 0;
+        // With the override fitted hold is at its limit in S5 alone.
+        singly.hold = HOLD_LIMIT - below(3_000) - u32::from(singly.hardware.power_override);
+        let mut at_once = singly.clone();
+        let n = below(3_000);
+        singly.tick_singly(n);
+        at_once.tick_at_once(n);
+        assert_eq!(singly, at_once);
+    }
+}
