@@ -1,41 +1,39 @@
 // A case: a script, run from power-on.
 use crate::platforms::Platform;
 use crate::platforms::power_on;
-use crate::script::letter;
-use crate::script::step_of;
 use libc::STDOUT_FILENO;
 use machine::Machine;
 use model::Answer;
 use model::Step;
+use script::Line;
+
+// More than a step's text or a listing's line has.
+const ROOM: usize = 64;
 
 // Runs a script, a line a step. Empty lines and the spaces that a line begins with are layout.
-pub(crate) fn run(platform: Platform, script: &[u8]) {
+pub(crate) fn run(platform: Platform, source: &[u8]) {
     let mut m = power_on(platform);
     let mut start = 0;
-    let mut i = 0;
-    while i < script.len() {
-        if script[i] == b'\n' {
-            let next = line(m, &script[start..i]);
-            m = next;
-            start = i + 1;
-        }
-        i += 1;
+    while start < source.len() {
+        let next = line(m, text::line_from(source, start));
+        m = next;
+        start = text::next_line(source, start);
     }
 }
 
-fn line(m: Machine, text: &[u8]) -> Machine {
-    let at = indent(text);
-    if at < text.len() {
-        said(m, &text[at..])
+fn line(m: Machine, source: &[u8]) -> Machine {
+    let at = indent(source);
+    if at < source.len() {
+        said(m, &source[at..])
     } else {
         m
     }
 }
 
-fn indent(text: &[u8]) -> usize {
+fn indent(source: &[u8]) -> usize {
     let mut i = 0;
-    while i < text.len() {
-        if text[i] != b' ' {
+    while i < source.len() {
+        if source[i] != b' ' {
             return i;
         }
         i += 1;
@@ -44,67 +42,61 @@ fn indent(text: &[u8]) -> usize {
 }
 
 // Writes a line and, if it says a step, does it and writes what came of it.
-fn said(m: Machine, text: &[u8]) -> Machine {
-    io::write_all(STDOUT_FILENO, text);
-    if letter(text, 0) == b'#' {
-        io::write_all(STDOUT_FILENO, b"\n");
-        m
-    } else {
-        done(m, step_of(text))
+fn said(m: Machine, words: &[u8]) -> Machine {
+    io::write_all(STDOUT_FILENO, words);
+    let next = heard(m, words);
+    io::write_all(STDOUT_FILENO, b"\n");
+    next
+}
+
+fn heard(m: Machine, words: &[u8]) -> Machine {
+    if is_remark(words) {
+        return m;
     }
+    match read(words) {
+        Line::Step(s) => done(m, s),
+        Line::Unread => {
+            io::write_all(STDOUT_FILENO, b"\tunread");
+            m
+        }
+    }
+}
+
+fn is_remark(words: &[u8]) -> bool {
+    words.len() != 0 && words[0] == b'#'
+}
+
+// A script parts its fields by tabs, a case by single spaces.
+fn read(words: &[u8]) -> Line {
+    let mut copy = [b'\n'; ROOM];
+    text::write_text(&mut copy, 0, words);
+    let line = tabbed(copy);
+    script::line_of(text::line_from(&line, 0))
+}
+
+fn tabbed(line: [u8; ROOM]) -> [u8; ROOM] {
+    let mut tabs = line;
+    let mut i = 0;
+    while i < ROOM {
+        if tabs[i] == b' ' {
+            tabs[i] = b'\t';
+        }
+        i += 1;
+    }
+    tabs
 }
 
 fn done(m: Machine, s: Step) -> Machine {
     let stepped = step::step(m, s);
     let answer = stepped.answer;
     let next = stepped.machine;
-    show_answer(answer);
-    show_machine(next);
+    show(answer, next);
     next
 }
 
-fn show_answer(answer: Answer) {
-    io::write_all(STDOUT_FILENO, b"\t");
-    io::print_decimal(STDOUT_FILENO, model::number(answer) as u64);
-    io::write_all(STDOUT_FILENO, b"\t");
-    io::write_all(STDOUT_FILENO, &hex(model::value(answer)));
-}
-
-// The lines and the state.
-fn show_machine(m: Machine) {
-    io::write_all(STDOUT_FILENO, b"\t");
-    io::print_decimal(STDOUT_FILENO, machine::sci(m) as u64);
-    io::write_all(STDOUT_FILENO, b"\t");
-    io::print_decimal(STDOUT_FILENO, machine::smi(m) as u64);
-    show_state(m.state);
-}
-
-fn show_state(state: u8) {
-    io::write_all(STDOUT_FILENO, b"\tS");
-    io::print_decimal(STDOUT_FILENO, state as u64);
-    io::write_all(STDOUT_FILENO, b"\n");
-}
-
-// Eight hex digits, in upper case.
-fn hex(value: u32) -> [u8; 8] {
-    [
-        glyph(value / 0x10000000),
-        glyph(value / 0x1000000),
-        glyph(value / 0x100000),
-        glyph(value / 0x10000),
-        glyph(value / 0x1000),
-        glyph(value / 0x100),
-        glyph(value / 0x10),
-        glyph(value),
-    ]
-}
-
-// The last digit.
-fn glyph(value: u32) -> u8 {
-    let digit = (value % 16) as u8;
-    if digit < 10 {
-        b'0' + digit
-    } else {
-        b'A' - 10 + digit
-    }
+// A listing's line without the step's number, which is one digit here.
+fn show(answer: Answer, m: Machine) {
+    let mut entry = [0; ROOM];
+    listing::write_entry(&mut entry, 0, 0, answer, m);
+    io::write_all(STDOUT_FILENO, text::line_from(&entry, 1));
 }

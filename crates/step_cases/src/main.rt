@@ -6,7 +6,6 @@ mod commands;
 mod lines;
 mod platforms;
 mod refusals;
-mod script;
 mod session;
 mod sleeping;
 mod split;
@@ -14,9 +13,12 @@ mod ticking;
 mod waking;
 
 use libc::STDOUT_FILENO;
+use listing::HEADER_LENGTH;
 
 fn main() {
-    io::write_all(STDOUT_FILENO, b"step\tanswer\tvalue\tsci\tsmi\tstate\n");
+    let mut header = [0; HEADER_LENGTH];
+    listing::write_header(&mut header);
+    io::write_all(STDOUT_FILENO, &header);
     session::all();
     refusals::all();
     cell_writes::all();

@@ -12,7 +12,6 @@ pub enum Platform {
     Bare,
 }
 
-// The length of a table.
 pub const SIZE: usize = 116;
 
 const NO: [u8; 2] = [255, 255];
@@ -124,7 +123,6 @@ fn common() -> [u8; SIZE] {
     filled([0; SIZE], &COMMON)
 }
 
-// The table with fields set.
 fn filled(table: [u8; SIZE], fields: &[[u32; 2]]) -> [u8; SIZE] {
     let mut t = table;
     let mut i = 0;
@@ -137,7 +135,6 @@ fn filled(table: [u8; SIZE], fields: &[[u32; 2]]) -> [u8; SIZE] {
     t
 }
 
-// The table with its checksum.
 fn with_sum(table: [u8; SIZE]) -> [u8; SIZE] {
     let mut t = table;
     t[9] = std::num::wrapping_sub_u8(0, sum_of(t));

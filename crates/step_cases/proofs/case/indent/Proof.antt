@@ -6,10 +6,10 @@ use Rattle.step_cases.proofs.case.indent.Statement.{statement}
 use Rattle.step_cases.proofs.case.indent.Tie as tie
 
 abbrev Inv-loop : tie.InvT-loop
-Inv-loop text i₀ i = Unit {0}
+Inv-loop source i₀ i = Unit {0}
 
 abbrev μ-loop : tie.MeasureT-loop
-μ-loop text i₀ i = length text - i
+μ-loop source i₀ i = length source - i
 
 loop-holds : tie.Need-loop-holds Inv-loop μ-loop
 loop-holds c = tt
