@@ -60,7 +60,6 @@ pub fn within16(mask: u16, x: u16) -> bool
     (x & mask) == x
 }
 
-// One of two, by a test.
 pub fn pick8(c: bool, a: u8, b: u8) -> u8
     ensures { λ r. ⌜ r ≡ cond c a b ⌝ }
 {

@@ -49,7 +49,6 @@ pub(crate) fn read_cells(m: Machine, r: Register, width: u32, offset: u64) -> u3
     }
 }
 
-// The machine with its PM1 event cells changed.
 fn with_event(mut m: Machine, sts: u16, en: u16) -> Machine
     ensures { λ r. ⌜ r ≡ withEvent m sts en ⌝ }
 {
@@ -75,7 +74,6 @@ fn with_arb_dis(mut m: Machine, arb_dis: bool) -> Machine
     m
 }
 
-// The machine with the status bytes, or the enable bytes, of a GPE block changed.
 fn with_gpe_sts(mut m: Machine, b: bool, sts: [u8; GPE_BYTES]) -> Machine
     ensures { λ r. ⌜ r ≡ withGpe m (cond b (m .«gpe0_sts») sts) (m .«gpe0_en») (cond b sts (m .«gpe1_sts»)) (m .«gpe1_en») ⌝ }
 {

@@ -13,7 +13,6 @@ ghost use Rattle.machine.specs.Fields.{withButton};
 ghost use Rattle.machine.specs.Sleep.{restarted, wokenIf};
 ghost use Rattle.model.specs.Events.{fits, raised, inS5, pressOf, releaseOf, signalWakes, signalOf, pcieWakes, pcieWakeOf};
 
-// Whether the status bit is fitted.
 pub(crate) fn fits(s: Settings, bit: u16) -> bool
     ensures { λ r. ⌜ r ≡ fits s bit ⌝ }
 {
@@ -45,7 +44,6 @@ fn roused(m: Machine) -> Machine
     }
 }
 
-// The button goes down: its bit is set, and hold is zero.
 fn button_down(m: Machine) -> Machine
     ensures { λ r. ⌜ r ≡ withButton (raised m pwrbtnBit) true 0 ⌝ }
 {
@@ -71,7 +69,6 @@ pub(crate) fn release(m: Machine) -> Machine
     next
 }
 
-// Whether the bit is enabled, and wakes the state.
 fn signal_wakes(m: Machine, bit: u16) -> bool
     ensures { λ r. ⌜ r ≡ signalWakes m bit ⌝ }
 {

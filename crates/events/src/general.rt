@@ -8,7 +8,6 @@ ghost use mathlib.Core.Path.{_≡_};
 ghost use Prim.Native.Nat.{_-_, _^_, _<_};
 ghost use Rattle.model.specs.Events.{inGpe0, inGpe1, numberIn, withBit, isEnabled, generalRaised, generalEnabled, generalOf};
 
-// The event is one of GPE0's.
 pub(crate) fn in_gpe0(s: Settings, k: u32) -> bool
     ensures { λ r. ⌜ r ≡ inGpe0 s k ⌝ }
 {
@@ -24,7 +23,6 @@ fn past_base(s: Settings, k: u32) -> u32
     if base <= k { k - base } else { 0 }
 }
 
-// .. or of GPE1's.
 pub(crate) fn in_gpe1(s: Settings, k: u32) -> bool
     ensures { λ r. ⌜ r ≡ inGpe1 s k ⌝ }
 {
@@ -60,7 +58,6 @@ fn with_bit(xs: [u8; GPE_BYTES], k: u32) -> [u8; GPE_BYTES]
     }
 }
 
-// Whether event k's bit is set in these enable bytes.
 fn is_enabled(xs: [u8; GPE_BYTES], k: u32) -> bool
     ensures { λ r. ⌜ r ≡ isEnabled xs k ⌝ }
 {

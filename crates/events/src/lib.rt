@@ -119,7 +119,6 @@ fn answer(m: Machine, e: Event) -> Answer
     }
 }
 
-// An event or ticks.
 pub fn event(m: Machine, e: Event) -> Stepped
     ensures { λ r. ⌜ r ≡ stepOf m (step.Event e) ⌝ }
 {

@@ -34,7 +34,6 @@ fn overridden_if(off: bool, m: Machine) -> Machine
     if off { m.override_power() } else { m }
 }
 
-// The machine with a clock's counter, hold, turns and override.
 fn timed(m: Machine, t: Clock) -> Machine
     ensures { λ r. ⌜ r ≡ timed m t ⌝ }
 {

@@ -8,7 +8,6 @@ ghost use Rattle.model.specs.Firmware.{isAcpiEnable, isAcpiDisable, sciEnAfter,
 ghost use Rattle.model.specs.Step.{answerTo, stepOf};
 ghost use Rattle.model.specs.declared.Step.the-variants as step;
 
-// Whether the command that waits is ACPI_ENABLE, or ACPI_DISABLE.
 fn is_acpi_enable(m: Machine) -> bool
     ensures { λ r. ⌜ r ≡ isAcpiEnable m ⌝ }
 {
@@ -85,7 +84,6 @@ pub fn take(m: Machine) -> Stepped
     }
 }
 
-// The machine with the release flag down.
 fn drop_flag(mut m: Machine) -> Machine
     ensures { λ r. ⌜ r ≡ dropOf m ⌝ }
 {

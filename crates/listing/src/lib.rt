@@ -93,7 +93,6 @@ fn put_fields(
     put_tail(buf, third, value, sci, smi, state);
 }
 
-// .. from a place on.
 fn put_at(
     buf: &mut [u8],
     at: usize,

@@ -63,7 +63,6 @@ pub struct Machine {
     pub state: u8,
 }
 
-// What setting up gives: its answer, and the machine.
 pub struct SetUp {
     pub answer: SetUpAnswer,
     pub machine: Machine,

@@ -54,7 +54,6 @@ impl Machine {
         self.enter(0)
     }
 
-    // An event in S1 to S4 that wakes, or does not.
     pub fn wake_if(self, test: bool) -> Machine
         ensures { λ r. ⌜ r ≡ wokenIf test self ⌝ }
     {

@@ -2,7 +2,6 @@
 ghost use mathlib.Core.Path.{_≡_};
 ghost use Rattle.machine.specs.Cells.{hasBit};
 
-// The bits of the table, by their status names.
 pub const TMR: u16 = 0x0001;
 
 pub const BM: u16 = 0x0010;
@@ -19,7 +18,6 @@ pub const PCIEXP_WAKE: u16 = 0x4000;
 
 pub const WAK: u16 = 0x8000;
 
-// Whether a bit is among those of a mask.
 pub fn has_bit(mask: u16, bit: u16) -> bool
     ensures { λ r. ⌜ r ≡ hasBit mask bit ⌝ }
 {

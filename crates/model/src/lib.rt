@@ -56,7 +56,6 @@ pub enum Answer {
     NoCommand,
 }
 
-// What a step gives.
 pub struct Stepped {
     pub answer: Answer,
     pub machine: Machine,

@@ -45,7 +45,6 @@ pub fn register_at(s: Settings, port: u64) -> Register
     }
 }
 
-// The port's offset in its block.
 pub fn offset_at(s: Settings, port: u64) -> u64
     ensures { λ r. ⌜ r ≡ offsetAt s port ⌝ }
 {

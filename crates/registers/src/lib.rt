@@ -58,7 +58,6 @@ fn enable_in(s: Settings, b: bool) -> u16
     platform::enable_cells(s) & homes_in(s.event_homes, b)
 }
 
-// What an access of the width shows of the register.
 pub fn shown(width: u32, offset: u64, register: u32) -> u32
     ensures { λ r. ⌜ r ≡ shown width offset register ⌝ }
 {
@@ -66,21 +65,18 @@ pub fn shown(width: u32, offset: u64, register: u32) -> u32
     pick32(width == 1, byte, register)
 }
 
-// The bits of the byte at the offset.
 fn byte_bits(offset: u64) -> u16
     ensures { λ r. ⌜ r ≡ placed offset 255 ⌝ }
 {
     bits::at_lane(offset % 2 == 1, 255)
 }
 
-// The register's bits that the access covers.
 fn covered(width: u32, offset: u64) -> u16
     ensures { λ r. ⌜ r ≡ covered width offset ⌝ }
 {
     pick16(width == 1, byte_bits(offset), 0xffff)
 }
 
-// What is written, at its place in the register.
 pub fn placed(offset: u64, written: u32) -> u64
     ensures { λ r. ⌜ r ≡ placed offset written ⌝ }
 {
@@ -91,7 +87,6 @@ pub fn placed(offset: u64, written: u32) -> u64
     }
 }
 
-// The bits written that a mask lets through.
 fn placed_in(offset: u64, written: u32, mask: u16) -> u16
     ensures { λ r. ⌜ r ≡ bitAnd (placed offset written) mask ⌝ }
 {
@@ -143,7 +138,6 @@ pub fn control_in(s: Settings, b: bool, bit: u8) -> bool
     }
 }
 
-// PM1b control is present.
 pub fn has_pm1b_cnt(s: Settings) -> bool
     ensures { λ r. ⌜ r ≡ hasPm1bCnt s ⌝ }
 {
@@ -168,7 +162,6 @@ pub fn control_register(m: Machine, b: bool) -> u32
     sci_en | bm_rld | (typ * 1024)
 }
 
-// Whether the access covers the register's low byte, or its high byte.
 pub fn covers_low(width: u32, offset: u64) -> bool
     ensures { λ r. ⌜ r ≡ coversLow width offset ⌝ }
 {
@@ -181,7 +174,6 @@ pub fn covers_high(width: u32, offset: u64) -> bool
     (width == 2) | (offset % 2 == 1)
 }
 
-// Bit n of what is written at the offset.
 pub fn written_bit(offset: u64, written: u32, n: u8) -> bool
     ensures { λ r. ⌜ r ≡ writtenBit offset written n ⌝ }
 {
@@ -259,7 +251,6 @@ pub fn gpe_en_byte(m: Machine, b: bool, offset: u64) -> u8
     byte_at(gpe_en(m, b), past_status(s, b, offset))
 }
 
-// The low byte of what is written.
 pub fn low_byte(written: u32) -> u8
     ensures { λ r. ⌜ r ≡ written % 2 ^ 8 ⌝ }
 {

@@ -112,7 +112,6 @@ fn counter() {
     line(b"24 bits, 0 by 4294967295: turns", most.turns as u64);
 }
 
-// The hold and the override.
 fn hold() {
     let below = clock::ticks(false, true, true, 0, 0, 14318179);
     flag(b"held for 14318179 ticks: off", below.off);
@@ -129,7 +128,6 @@ fn hold() {
     line(b"button up, hold 5: hold", up.hold as u64);
 }
 
-// The state that a pair names.
 fn states() {
     let pairs = [[0, 0], [255, 255], [255, 255], [5, 2], [255, 255], [7, 0]];
     line(b"pair (5, 2)", sleep::state_of(pairs, true, 5, 2) as u64);
