@@ -4,7 +4,6 @@ use text::field_is_hex;
 ghost use mathlib.Core.Path.{_≡_};
 ghost use Rattle.script.specs.Fields.{hexBelow};
 
-// Whether field n is a number below the limit.
 pub(crate) fn hex_below(line: &[u8], n: usize, limit: u64) -> bool
     ensures { λ r. ⌜ r ≡ hexBelow limit (now (line .entry)) n ⌝ }
 {

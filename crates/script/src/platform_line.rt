@@ -80,7 +80,6 @@ fn state_reads(line: &[u8], n: usize) -> bool
     absent | ((digits.len() == 2) & is_hex(digits))
 }
 
-// Whether fields 4 to 9 are states.
 fn states_read(line: &[u8]) -> bool
     ensures { λ r. ⌜ r ≡ statesRead (now (line .entry)) ⌝ }
 {
@@ -114,7 +113,6 @@ fn digit_at(digits: &[u8], i: usize) -> u8
     }
 }
 
-// The pair that field n says.
 fn pair(line: &[u8], n: usize) -> [u8; 2]
     ensures { λ r. ⌜ r ≡ pairOf (fieldAt (now (line .entry)) n) ⌝ }
 {

@@ -17,7 +17,6 @@ pub enum Line {
     Unread,
 }
 
-// A line of one field.
 fn lone_line(line: &[u8]) -> Line
     ensures { λ r. ⌜ r ≡ loneLine (fieldAt (now (line .entry)) 0) ⌝ }
 {

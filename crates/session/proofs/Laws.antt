@@ -1,24 +1,29 @@
 -- Laws for the loops over a script's lines: one turn, and the end. Assumes nothing.
 use mathlib.Core.Bool.{Bool, true, false, cond}
-use mathlib.Core.List.{List, [], _++_}
+use mathlib.Core.List.{List, [], _∷_, _++_}
 use mathlib.Core.Path.{_≡_, refl, sym, _∙_, ap, ap₂}
 use mathlib.Core.Logic.{_⊎_, inl, inr}
-use Prim.Native.Nat.{ℕ, suc, _+_, _-_, _≤_, _<_}
-use native.Mathlib.Nat.{zero-add}
+use Prim.Native.Nat.{ℕ, suc, _+_, _-_, _*_, _/_, _≤_, _<_}
+use native.Mathlib.Nat.{zero-add, suc-mul, le-trans, lt-of-le-of-lt, le-div-iff-mul-le}
 use native.Mathlib.Omega.{arith}
 use borrow.Author.Tests.{ltb-true, ltb-false, leb-true, leb-false, le-leb, lt-leb, eq-eqb, ne-eqb}
 use lib.Dec.{eqb, ltb, leb}
 use lib.ListN.{length, drop, length-append}
 use lib.Seq.{sets, length-sets, length-take-le}
 use Rattle.lists.proofs.Tests.{and-right}
+use Rattle.text.specs.Numbers.{digitCount}
 use Rattle.text.specs.Parts.{lf, stopAt, front, linesOf, endOf, nextLine}
+use Rattle.text.proofs.Fewest.{digits-suffice, digits-fewest, digit-count-some}
 use Rattle.text.proofs.Cuts.{stop-within}
 use Rattle.text.proofs.Stores.{sets-then}
 use Rattle.text.proofs.Lines.{line-turn, line-end}
 use Rattle.platform.specs.Answer.{answerNumber}
 use Rattle.machine.specs.declared.Machine.{Machine}
 use Rattle.machine.specs.declared.SetUp.{SetUp}
+use Rattle.model.specs.Answer.{numberOf}
 use Rattle.model.specs.Step.{stepOf}
+use Rattle.model.specs.declared.Answer.{Answer}
+use Rattle.model.specs.declared.Answer.the-variants as reply
 use Rattle.model.specs.declared.Step.{Step}
 use Rattle.model.specs.declared.Stepped.{Stepped}
 use Rattle.listing.specs.Entry.{header, entry, entryLength, putAt}
@@ -217,3 +222,49 @@ module _ (table script l : List ℕ) where
             rw (p, yes, none) (e .0 ∙ ap₂ (λ (x : SetUp) (o : ℕ). answerFor (length (listingOf (x .machine) (linesOf (drop o script)))) (length l)) q f),
             rw (p, yes, none) (e .1 ∙ ap₂ (λ (x : SetUp) (o : ℕ). textFor (listingOf (x .machine) (linesOf (drop o script))) l) q f),
           )
+
+-- ---- room for any answers
+
+-- no answer's number has more than two digits
+number-short : (a : Answer) → numberOf a < 100
+number-short (reply.Done v) = omega arith
+number-short reply.Asleep = omega arith
+number-short reply.WrongWidth = omega arith
+number-short reply.DataTooWide = omega arith
+number-short reply.NoBlock = omega arith
+number-short reply.NotAllowed = omega arith
+number-short reply.TimerWritten = omega arith
+number-short reply.CommandWaits = omega arith
+number-short reply.NoSleepState = omega arith
+number-short reply.NotFitted = omega arith
+number-short reply.NoSuchEvent = omega arith
+number-short reply.ButtonAlready = omega arith
+number-short reply.NoCommand = omega arith
+
+-- a larger number has no fewer digits
+count-grows : (k n : ℕ) → k ≤ n → digitCount 10 k ≤ digitCount 10 n
+count-grows k n h = digits-fewest 10 (omega arith) k (digitCount 10 n) (digit-count-some 10 (omega arith) n) (lt-of-le-of-lt h (digits-suffice 10 (omega arith) n))
+
+entry-most : (k n : ℕ) (a : Answer) → k ≤ n → entryLength k a ≤ 20 + digitCount 10 n
+entry-most k n a h =
+    let short = digits-fewest 10 (omega arith) (numberOf a) 2 (omega arith) (number-short a) in
+    let grows = count-grows k n h in
+    omega arith
+
+entries-most : (n k : ℕ) (m : Machine) (ls : List (List ℕ)) → k + length ls ≤ suc n → length (entries k m ls) ≤ length ls * (20 + digitCount 10 n)
+unfolding entries
+entries-most n k m [] h = omega arith
+entries-most n k m (l ∷ ls) h =
+    let done = stepOf m (stepIn (lineOf l)) in
+    let first = entry k (done .answer) (done .machine) in
+    let own = entry-most k n (done .answer) (omega arith) in
+    let rest = entries-most n (suc k) (done .machine) ls (omega arith) in
+    rw (length-append, entry-length, suc-mul) (omega arith)
+
+-- the lines of so many steps fit where any would
+pub any-fit : (m : Machine) (ls : List (List ℕ)) (room : ℕ) → leb (length ls) (room / (20 + digitCount 10 (length ls))) ≡ true → leb (length (entries 1 m ls)) room ≡ true
+any-fit m ls room e =
+    let most = entries-most (length ls) 1 m ls (omega arith) in
+    let wide : 0 < 20 + digitCount 10 (length ls) = omega arith in
+    let fits : length ls * (20 + digitCount 10 (length ls)) ≤ room = le-div-iff-mul-le wide .0 (leb-true _ _ e) in
+    le-leb _ _ (le-trans most fits)

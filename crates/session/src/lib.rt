@@ -14,13 +14,16 @@ use script::line_of;
 use script::pairs;
 use script::platform_reads;
 use script::power_override;
+use text::decimal_digits;
+use text::line_count;
 use text::line_from;
 use text::next_line;
 ghost use mathlib.Core.Path.{_≡_};
-ghost use Prim.Native.Nat.{_+_, _≤_};
+ghost use Prim.Native.Nat.{_+_, _/_, _≤_};
 ghost use lib.Dec.{leb};
 ghost use lib.Seq.{sets};
 ghost use lib.ListN.{length, drop};
+ghost use Rattle.text.specs.Numbers.{digitCount};
 ghost use Rattle.text.specs.Parts.{lf, front, linesOf};
 ghost use Rattle.session.specs.Answer.{numberOf, valueOf};
 ghost use Rattle.session.specs.Session.{stepReads, firstUnread, stepIn, entries, listingOf, answerFor, textFor, platformLineReads, settled, answerOf, bufferAfter};
@@ -70,7 +73,6 @@ fn first_unread(source: &[u8], from: usize) -> usize
     0
 }
 
-// The step that a line says.
 fn step_in(line: Line) -> Step
     ensures { λ r. ⌜ r ≡ stepIn line ⌝ }
 {
@@ -87,8 +89,25 @@ fn stepped_at(m: Machine, source: &[u8], start: usize) -> Stepped
     step::step(m, step_in(line_of(line_from(source, start))))
 }
 
-// Whether the lines of the steps from a place on fit the room.
-fn entries_fit(m: Machine, source: &[u8], from: usize, room: usize) -> bool
+// Whether the lines of so many steps fit the room whatever they answer: a line has 18 bytes beside its two numbers, and no answer's number more than two digits.
+fn any_entries_fit(steps: usize, room: usize) -> bool
+    ensures { λ r. ⌜ r ≡ leb steps (room / (20 + digitCount 10 steps)) ⌝ }
+{
+    steps <= room / (20 + decimal_digits(steps as u64))
+}
+
+fn lines_from(source: &[u8], from: usize) -> usize
+    ensures { λ r. ⌜ r ≡ length (linesOf (drop from (now (source .entry)))) ⌝ }
+{
+    if from <= source.len() {
+        line_count(&source[from..])
+    } else {
+        0
+    }
+}
+
+// Whether the lines of the steps from a place on fit the room, by running the steps.
+fn run_fits(m: Machine, source: &[u8], from: usize, room: usize) -> bool
     ensures { λ r. ⌜ r ≡ leb (length (entries 1 m (linesOf (drop from (now (source .entry)))))) room ⌝ }
 {
     let mut current = m;
@@ -108,6 +127,16 @@ fn entries_fit(m: Machine, source: &[u8], from: usize, room: usize) -> bool
         start = next_line(source, start);
     }
     true
+}
+
+// The same; in a room that is large enough for any answers no step is run.
+fn entries_fit(m: Machine, source: &[u8], from: usize, room: usize) -> bool
+    ensures { λ r. ⌜ r ≡ leb (length (entries 1 m (linesOf (drop from (now (source .entry)))))) room ⌝ }
+{
+    if any_entries_fit(lines_from(source, from), room) {
+        return true;
+    }
+    run_fits(m, source, from, room)
 }
 
 // Writes the lines of the steps from a place on, which fit, and says where they end.

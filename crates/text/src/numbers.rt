@@ -56,7 +56,6 @@ pub fn hex_digits(n: u64) -> usize
     digit_count(n, 16)
 }
 
-// The fewest digits that show n.
 pub fn decimal_digits(n: u64) -> usize
     ensures { λ r. ⌜ r ≡ digitCount 10 n ⌝ }
 {
@@ -102,7 +101,6 @@ pub fn digit_of(byte: u8) -> u8
     16
 }
 
-// The byte of a digit.
 fn glyph_of(d: u64) -> u8
     requires { ⌜ d < 16 ⌝ }
     ensures { λ r. ⌜ r ≡ glyph d ⌝ }
@@ -159,7 +157,6 @@ fn fits(text: &[u8], base: u64) -> bool
     true
 }
 
-// The number that the digits show.
 fn value(text: &[u8], base: u64) -> u64
     requires { ⌜ (1 < base) × (valueOf base (now text) < 2 ^ 64) ⌝ }
     ensures { λ r. ⌜ r ≡ valueOf base (now (text .entry)) ⌝ }
@@ -173,7 +170,6 @@ fn value(text: &[u8], base: u64) -> u64
     n
 }
 
-// The fewest digits that show n.
 fn digit_count(n: u64, base: u64) -> usize
     requires { ⌜ 1 < base ⌝ }
     ensures { λ r. ⌜ r ≡ digitCount base n ⌝ }

@@ -7,7 +7,7 @@ use crate::Machine;
 pub const HOLD_LIMIT: u32 = 14_318_180;
 
 /// From here on ticks are computed at once.
-const MANY: u32 = 4096;
+const MANY: u32 = 256;
 
 impl Machine {
     pub(crate) fn tick(&mut self, n: u32) {

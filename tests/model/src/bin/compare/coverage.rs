@@ -9,7 +9,8 @@ use model::{
 
 use crate::damage::{SCRIPTS, TABLES};
 use crate::halves::{gap_step, moved, write_backs};
-use crate::sessions::{join, lines, Kind, Session};
+use crate::sessions::{Kind, Session};
+use crate::text::{join, lines};
 
 pub struct Coverage {
     pub rows: Vec<(String, u64)>,

@@ -4,6 +4,7 @@ use model::{A, B};
 
 use crate::platform::Platform;
 use crate::random::Random;
+use crate::text::join;
 
 /// A kind of table: done to a full platform's fields, or to the bytes; and setting up's answer.
 pub struct Table {
@@ -215,9 +216,7 @@ impl Script {
             }
             How::Whole(how) => return how(lines, random),
         }
-        let mut script = lines.join(&b'\n');
-        script.push(b'\n');
-        script
+        join(&lines)
     }
 }
 
@@ -326,8 +325,7 @@ pub const SCRIPTS: &[Script] = &[
 
 /// The same steps again and again, until the script is so long.
 fn of_length(lines: Vec<Vec<u8>>, length: usize) -> Vec<u8> {
-    let mut script = lines.join(&b'\n');
-    script.push(b'\n');
+    let mut script = join(&lines);
     for line in lines[1..].iter().cycle() {
         if script.len() + line.len() + 64 > length {
             break;

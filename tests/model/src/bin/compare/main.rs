@@ -7,8 +7,9 @@ mod halves;
 mod platform;
 mod programs;
 mod random;
-mod script;
 mod sessions;
+mod steps;
+mod text;
 
 use std::fs;
 use std::path::{Path, PathBuf};

@@ -1,11 +1,12 @@
 //! A session for each seed: whole ones, and ones with a damaged table or script or with values at the limits.
 
-use model::{set_up, Settings, Step, LIMIT};
+use model::{set_up, LIMIT};
 
 use crate::damage::{SCRIPTS, TABLES};
 use crate::platform::Platform;
 use crate::random::Random;
-use crate::script::{line, platform_line, steps};
+use crate::steps::steps;
+use crate::text::{join, lines, platform_line};
 
 pub struct Session {
     pub kind: Kind,
@@ -44,18 +45,6 @@ fn whole(random: &mut Random) -> Session {
     let machine = set_up(&table, &platform.settings).expect("a whole platform");
     let lines = lines(&platform.settings, &steps(random, machine, length));
     Session { kind: Kind::Whole, table, script: join(&lines) }
-}
-
-pub fn lines(settings: &Settings, steps: &[Step]) -> Vec<Vec<u8>> {
-    let mut lines = vec![platform_line(settings).into_bytes()];
-    lines.extend(steps.iter().map(|step| line(step).into_bytes()));
-    lines
-}
-
-pub fn join(lines: &[Vec<u8>]) -> Vec<u8> {
-    let mut script = lines.join(&b'\n');
-    script.push(b'\n');
-    script
 }
 
 /// A few steps where setting up accepts; the platform line and a firmware step where it does not.

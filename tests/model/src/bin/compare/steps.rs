@@ -1,7 +1,7 @@
-//! Random scripts. The model runs beside, so that most steps do something: enables before events, the pair of a state
+//! Random steps. The model runs beside, so that most steps do something: enables before events, the pair of a state
 //! that there is, ticks up to the next turn.
 
-use model::{Block, Machine, Settings, Step, A, B, HOLD_LIMIT, PCIEXP_WAKE, PWRBTN, RTC, SLPBTN};
+use model::{Block, Machine, Step, A, B, HOLD_LIMIT, PCIEXP_WAKE, PWRBTN, RTC, SLPBTN};
 
 use crate::random::Random;
 
@@ -17,41 +17,6 @@ pub fn steps(random: &mut Random, machine: Machine, length: usize) -> Vec<Step> 
     }
     author.end();
     author.steps
-}
-
-/// A line of the script for each step, without LF.
-pub fn line(step: &Step) -> String {
-    match *step {
-        Step::Read { port, width } => format!("r\t{port:X}\t{width:X}"),
-        Step::Write { port, width, data } => format!("w\t{port:X}\t{width:X}\t{data:X}"),
-        Step::Press => "press".to_string(),
-        Step::Release => "release".to_string(),
-        Step::Sleep => "sleep".to_string(),
-        Step::Alarm => "alarm".to_string(),
-        Step::Wake => "wake".to_string(),
-        Step::Master => "master".to_string(),
-        Step::Unlock => "unlock".to_string(),
-        Step::Event(number) => format!("event\t{number:X}"),
-        Step::Tick(n) => format!("tick\t{n:X}"),
-        Step::Take => "take".to_string(),
-        Step::Drop => "drop".to_string(),
-    }
-}
-
-pub fn platform_line(settings: &Settings) -> String {
-    let mut line = format!(
-        "platform\t{:04X}\t{:04X}\t{}",
-        settings.event_homes,
-        settings.control_homes,
-        u8::from(settings.power_override)
-    );
-    for state in &settings.states {
-        line += &match state {
-            Some((a, b)) => format!("\t{a:X}{b:X}"),
-            None => "\t-".to_string(),
-        };
-    }
-    line
 }
 
 struct Author<'a> {
@@ -253,7 +218,7 @@ impl Author<'_> {
             0 => 0,
             1 => 1,
             2 => self.random.below(4096) as u32,
-            3 => 4095 + self.random.below(3) as u32,
+            3 => 255 + self.random.below(3) as u32,
             4 => self.random.below(1 << 20) as u32,
             5 => self.random.next() as u32,
             6 => u32::MAX,
