@@ -3,12 +3,13 @@ use crate::hex_fields::hex_below;
 use model::Access;
 use model::Event;
 use model::Step;
+use text::field;
 use text::field_count;
 use text::field_hex;
 use text::field_is;
 use text::field_is_hex;
+use text::same;
 ghost use mathlib.Core.Path.{_≡_};
-ghost use Rattle.script.specs.Fields.{fieldAt};
 ghost use Rattle.script.specs.StepLine.{loneLine, countLine, accessReads, readLine, writeLine, lineOf};
 
 // What a line says: a step, or nothing that reads.
@@ -17,34 +18,34 @@ pub enum Line {
     Unread,
 }
 
-fn lone_line(line: &[u8]) -> Line
-    ensures { λ r. ⌜ r ≡ loneLine (fieldAt (now (line .entry)) 0) ⌝ }
+fn lone_line(word: &[u8]) -> Line
+    ensures { λ r. ⌜ r ≡ loneLine (now (word .entry)) ⌝ }
 {
-    if field_is(line, 0, b"press") {
+    if same(word, b"press") {
         return Line::Step(Step::Event(Event::Press));
     }
-    if field_is(line, 0, b"release") {
+    if same(word, b"release") {
         return Line::Step(Step::Event(Event::Release));
     }
-    if field_is(line, 0, b"sleep") {
+    if same(word, b"sleep") {
         return Line::Step(Step::Event(Event::SleepPress));
     }
-    if field_is(line, 0, b"alarm") {
+    if same(word, b"alarm") {
         return Line::Step(Step::Event(Event::Alarm));
     }
-    if field_is(line, 0, b"wake") {
+    if same(word, b"wake") {
         return Line::Step(Step::Event(Event::PcieWake));
     }
-    if field_is(line, 0, b"master") {
+    if same(word, b"master") {
         return Line::Step(Step::Event(Event::BusMaster));
     }
-    if field_is(line, 0, b"unlock") {
+    if same(word, b"unlock") {
         return Line::Step(Step::Event(Event::Unlock));
     }
-    if field_is(line, 0, b"take") {
+    if same(word, b"take") {
         return Line::Step(Step::Take);
     }
-    if field_is(line, 0, b"drop") {
+    if same(word, b"drop") {
         return Line::Step(Step::Drop);
     }
     Line::Unread
@@ -111,7 +112,7 @@ pub fn line_of(line: &[u8]) -> Line
 {
     let count = field_count(line);
     if count == 1 {
-        return lone_line(line);
+        return lone_line(field(line, 0));
     }
     if count == 2 {
         return count_line(line);

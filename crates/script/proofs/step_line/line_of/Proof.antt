@@ -9,12 +9,15 @@ use Rattle.script.proofs.step_line.line_of.Tie as tie
 field-count-requires : tie.Need-field-count-requires
 field-count-requires c κs = search needs
 
+field-requires : tie.Need-field-requires
+field-requires c κs = search needs
+
 lone-line-requires : tie.Need-lone-line-requires
 lone-line-requires c κs = search needs
 
 returns : tie.Need-returns
 unfolding lineOf
-returns c = simp (c .lone-line .ensures, sym (c .before .before .field-count .ensures) ∙ c .before .if1 .taken)
+returns c = simp (c .lone-line .ensures, c .before .field .ensures, sym (c .before .before .before .field-count .ensures) ∙ c .before .before .if1 .taken)
 
 count-line-requires : tie.Need-count-line-requires
 count-line-requires c κs = search needs
@@ -46,6 +49,7 @@ line-of-spec =
     tie.close
     (tie.spec
     field-count-requires
+    field-requires
     lone-line-requires
     returns
     count-line-requires
