@@ -1,0 +1,41 @@
+//! The proved loops of `crates/loops`, as `rt staticlib` exports them. A slice is its address and its length.
+
+mod exported {
+    extern "C" {
+        pub fn loops_steps(table: *const u8, table_len: usize, base: u64, row: u32, n: u64) -> u64;
+        pub fn loops_set_up(table: *const u8, table_len: usize, n: u64) -> u64;
+        pub fn loops_session(
+            table: *const u8,
+            table_len: usize,
+            script: *const u8,
+            script_len: usize,
+            buffer: *mut u8,
+            buffer_len: usize,
+            n: u64,
+        ) -> u64;
+    }
+}
+
+// None of the three requires anything of its caller but slices that are there for the call.
+
+pub fn steps(table: &[u8], base: u64, row: u32, n: u64) -> u64 {
+    unsafe { exported::loops_steps(table.as_ptr(), table.len(), base, row, n) }
+}
+
+pub fn set_up(table: &[u8], n: u64) -> u64 {
+    unsafe { exported::loops_set_up(table.as_ptr(), table.len(), n) }
+}
+
+pub fn session(table: &[u8], script: &[u8], buffer: &mut [u8], n: u64) -> u64 {
+    unsafe {
+        exported::loops_session(
+            table.as_ptr(),
+            table.len(),
+            script.as_ptr(),
+            script.len(),
+            buffer.as_mut_ptr(),
+            buffer.len(),
+            n,
+        )
+    }
+}
