@@ -102,10 +102,11 @@ pub enum Column {
 pub fn mask(of: Column, flags: u32, timer: bool) -> u16
     ensures { λ r. ⌜ r ≡ maskOf of flags timer cells ⌝ }
 {
+    let table = CELLS;
     let mut m: u16 = 0;
     let mut i: usize = 0;
     while i < 8 {
-        let c = CELLS[i];
+        let c = table[i];
         m = m | cell_bit(of, flags, timer, c);
         i += 1;
     }
