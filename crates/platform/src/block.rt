@@ -32,7 +32,13 @@ pub fn holds_port(b: Block, port: u64) -> bool
 pub fn overlaps(a: Block, b: Block) -> bool
     ensures { λ r. ⌜ r ≡ overlap a b ⌝ }
 {
-    is_present(a) & (is_present(b) & (holds_port(a, b.address) | holds_port(b, a.address)))
+    if is_present(a) {
+        if is_present(b) {
+            return holds_port(a, b.address) | holds_port(b, a.address);
+        }
+        return false;
+    }
+    false
 }
 
 pub fn passes_ports(b: Block) -> bool

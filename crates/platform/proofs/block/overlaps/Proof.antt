@@ -1,4 +1,5 @@
 -- `platform::block::overlaps` meets its contract: what its calls and tests say, put together, is the definition. Assumes nothing.
+use mathlib.Core.Path.{sym, _∙_}
 use Rattle.platform.specs.Blocks.{overlap}
 use borrow.Author.Needs.{needs}
 use Rattle.platform.proofs.block.overlaps.Statement.{statement}
@@ -18,7 +19,15 @@ holds-port-requires-2 c κs = search needs
 
 returns : tie.Need-returns
 unfolding overlap
-returns c = simp (c .holds-port2 .ensures, c .before .holds-port .ensures, c .before .before .is-present2 .ensures, c .before .before .before .is-present .ensures)
+returns c = simp (c .holds-port2 .ensures, c .before .holds-port .ensures, sym (c .before .before .before .is-present2 .ensures) ∙ c .before .before .if2 .taken, sym (c .before .before .before .before .before .is-present .ensures) ∙ c .before .before .before .before .if1 .taken)
+
+returns-2 : tie.Need-returns-2
+unfolding overlap
+returns-2 c = simp (sym (c .before .is-present2 .ensures) ∙ c .if2 .left, sym (c .before .before .before .is-present .ensures) ∙ c .before .before .if1 .taken)
+
+returns-3 : tie.Need-returns-3
+unfolding overlap
+returns-3 c = simp (sym (c .before .is-present .ensures) ∙ c .if1 .left)
 
 pub overlaps-spec : {M : Type 1} → statement M
 overlaps-spec =
@@ -28,4 +37,6 @@ overlaps-spec =
     is-present-requires-2
     holds-port-requires
     holds-port-requires-2
-    returns)
+    returns
+    returns-2
+    returns-3)
