@@ -5,8 +5,8 @@ use model::Stepped;
 ghost use mathlib.Core.Path.{_≡_};
 ghost use Rattle.model.specs.Step.{stepOf};
 
-// The answer, and the machine after it; a refusal leaves the machine as it was.
-pub fn step(m: Machine, s: Step) -> Stepped
+// By the kind of step.
+fn stepped(m: Machine, s: Step) -> Stepped
     ensures { λ r. ⌜ r ≡ stepOf m s ⌝ }
 {
     match s {
@@ -16,4 +16,17 @@ pub fn step(m: Machine, s: Step) -> Stepped
         Step::Take => firmware::take(m),
         Step::Drop => firmware::drop(m),
     }
+}
+
+// The answer, and the machine after it; a refusal leaves the machine as it was. No step changes the settings: handing on
+// those that came in lets a loop of steps keep them in place.
+pub fn step(m: Machine, s: Step) -> Stepped
+    ensures { λ r. ⌜ r ≡ stepOf m s ⌝ }
+{
+    let settings = m.settings;
+    let given = stepped(m, s);
+    let answer = given.answer;
+    let mut machine = given.machine;
+    machine.settings = settings;
+    Stepped { answer, machine }
 }

@@ -1,69 +1,53 @@
--- `step::step` meets its contract: what its calls and tests say, put together, is the definition. Assumes nothing.
+-- `step::step` meets its contract: no step changes the settings, so those that came in are those of the machine after it. Assumes nothing.
+use mathlib.Core.Path.{_≡_, sym, _∙_, ap}
 use borrow.Author.Needs.{needs}
+use Rattle.platform.specs.declared.settings.Settings.{Settings}
+use Rattle.machine.specs.declared.Machine.{Machine}
+use Rattle.model.specs.Step.{stepOf}
+use Rattle.model.specs.declared.Step.{Step}
+use Rattle.model.specs.declared.Stepped.{Stepped}
+use Rattle.model.proofs.Steps.{settings-kept}
 use Rattle.step.proofs.step.Statement.{statement}
 use Rattle.step.proofs.step.Tie as tie
 
-enum-known-s : tie.Need-enum-known-s
-enum-known-s c = search needs
+-- the machine with other settings
+abbrev withSettings : Machine → Settings → Machine
+withSettings m s =
+    record {
+      settings = s;
+      «pm1_sts» = m .«pm1_sts»;
+      «pm1_en» = m .«pm1_en»;
+      «gpe0_sts» = m .«gpe0_sts»;
+      «gpe0_en» = m .«gpe0_en»;
+      «gpe1_sts» = m .«gpe1_sts»;
+      «gpe1_en» = m .«gpe1_en»;
+      counter = m .counter;
+      hold = m .hold;
+      button = m .button;
+      «command_waits» = m .«command_waits»;
+      command = m .command;
+      «gbl_rls» = m .«gbl_rls»;
+      armed = m .armed;
+      «slp_typ_a» = m .«slp_typ_a»;
+      «slp_typ_b» = m .«slp_typ_b»;
+      «sci_en» = m .«sci_en»;
+      «bm_rld» = m .«bm_rld»;
+      «arb_dis» = m .«arb_dis»;
+      state = m .state;
+    }
 
-read-requires : tie.Need-read-requires
-read-requires c κs = search needs
+abbrev given : Stepped → Settings → Stepped
+given g s = record { answer = g .answer; machine = withSettings (g .machine) s }
 
-enum-known-s-2 : tie.Need-enum-known-s-2
-enum-known-s-2 c = search needs
+-- the same settings put back change nothing
+put-back : (m : Machine) (s : Step) (g : Stepped) → g ≡ stepOf m s → given g (m .settings) ≡ stepOf m s
+put-back m s g e = ap (λ (x : Stepped). given x (m .settings)) e ∙ ap (given (stepOf m s)) (sym (settings-kept m s))
 
-write-requires : tie.Need-write-requires
-write-requires c κs = search needs
-
-enum-known-s-3 : tie.Need-enum-known-s-3
-enum-known-s-3 c = search needs
-
-event-requires : tie.Need-event-requires
-event-requires c κs = search needs
-
-enum-told : tie.Need-enum-told
-enum-told c = search needs
-
-take-requires : tie.Need-take-requires
-take-requires c κs = search needs
-
-enum-told-2 : tie.Need-enum-told-2
-enum-told-2 c = search needs
-
-drop-requires : tie.Need-drop-requires
-drop-requires c κs = search needs
+stepped-requires : tie.Need-stepped-requires
+stepped-requires c κs = search needs
 
 returns : tie.Need-returns
-returns c = simp (c .read .ensures, c .before .before .s .given .1)
-
-returns-2 : tie.Need-returns-2
-returns-2 c = simp (c .write .ensures, c .before .before .s2 .given .1)
-
-returns-3 : tie.Need-returns-3
-returns-3 c = simp (c .event .ensures, c .before .before .s3 .given .1)
-
-returns-4 : tie.Need-returns-4
-returns-4 c = simp (c .take .ensures, c .before .enum-told .given .1)
-
-returns-5 : tie.Need-returns-5
-returns-5 c = simp (c .drop .ensures, c .before .enum-told2 .given .1)
+returns c = put-back (c .before .before .before .args .m) (c .before .before .before .args .s) _ (c .before .stepped .ensures)
 
 pub step-spec : {M : Type 1} → statement M
-step-spec =
-    tie.close
-    (tie.spec
-    enum-known-s
-    read-requires
-    enum-known-s-2
-    write-requires
-    enum-known-s-3
-    event-requires
-    enum-told
-    take-requires
-    enum-told-2
-    drop-requires
-    returns
-    returns-2
-    returns-3
-    returns-4
-    returns-5)
+step-spec = tie.close (tie.spec stepped-requires returns)
