@@ -85,11 +85,19 @@ fn hold_after(down: bool, hold: u32, n: u32) -> u32
 pub fn ticks(wide: bool, down: bool, fitted: bool, counter: u32, hold: u32, n: u32) -> Clock
     ensures { λ r. ⌜ r ≡ ticksOf wide down fitted n (startOf counter hold) ⌝ }
 {
-    let run = ran(down, fitted, hold, n);
+    if down {
+        let run = ran(down, fitted, hold, n);
+        return Clock {
+            counter: counter_after(wide, counter, run),
+            turns: turns_in(wide, counter, run),
+            hold: hold_after(down, hold, run),
+            off: is_overridden(down, fitted, hold, n),
+        };
+    }
     Clock {
-        counter: counter_after(wide, counter, run),
-        turns: turns_in(wide, counter, run),
-        hold: hold_after(down, hold, run),
-        off: is_overridden(down, fitted, hold, n),
+        counter: counter_after(wide, counter, n),
+        turns: turns_in(wide, counter, n),
+        hold,
+        off: false,
     }
 }
