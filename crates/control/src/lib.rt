@@ -74,8 +74,10 @@ pub fn names_none(m: Machine, r: Register, width: u32, offset: u64, written: u32
         Register::SmiCmd => false,
         Register::Pm1Evt(_) => false,
         Register::Pm1Cnt(b) => {
-            completes(m, b, width, offset, written)
-                & (named_state(m, b, width, offset, written) == 0)
+            if completes(m, b, width, offset, written) {
+                return named_state(m, b, width, offset, written) == 0;
+            }
+            false
         }
         Register::Pm2Cnt => false,
         Register::PmTmr => false,
