@@ -1,8 +1,10 @@
-//! Links the proved loops: `rt staticlib loops` writes them.
+//! Links the proved loops: `rt staticlib` writes an archive for each of the two crates.
 
 fn main() {
-    let archive = concat!(env!("CARGO_MANIFEST_DIR"), "/../target/staticlib");
-    println!("cargo:rustc-link-search=native={archive}");
-    println!("cargo:rustc-link-lib=static=loops");
-    println!("cargo:rerun-if-changed={archive}/libloops.a");
+    let archives = concat!(env!("CARGO_MANIFEST_DIR"), "/../target/staticlib");
+    println!("cargo:rustc-link-search=native={archives}");
+    for name in ["loops", "session_loop"] {
+        println!("cargo:rustc-link-lib=static={name}");
+        println!("cargo:rerun-if-changed={archives}/lib{name}.a");
+    }
 }

@@ -28,8 +28,8 @@ enum Work {
 struct Row {
     name: &'static str,
     work: Work,
-    /// What the table's numbers are of: so many in a turn.
-    units: usize,
+    /// The table's numbers are of a unit: so many of them in a turn. A round has five steps.
+    units: f64,
     turns: u64,
     counted: u64,
 }
@@ -46,32 +46,32 @@ struct Given {
 }
 
 fn rows(lines: usize) -> Vec<Row> {
-    let steps = |name, row, units, turns| Row {
+    let steps = |name, row, units| Row {
         name,
         work: Work::Steps(row),
         units,
-        turns,
-        counted: 1000,
+        turns: 210_000,
+        counted: 2100,
     };
     vec![
-        steps("status read", 0, 1, 200_000),
-        steps("write-back", 1, 1, 200_000),
-        steps("event", 2, 7, 50_000),
-        steps("tick(1)", 3, 1, 200_000),
-        steps("tick(2^32 - 1)", 4, 1, 200_000),
-        steps("interrupt round", 5, 1, 50_000),
-        steps("sleep and wake round", 6, 1, 50_000),
+        steps("status read", 0, 1.0),
+        steps("write-back", 1, 1.0),
+        steps("event", 2, 1.0),
+        steps("tick(1)", 3, 1.0),
+        steps("tick(2^32 - 1)", 4, 1.0),
+        steps("interrupt round, whole", 5, 0.2),
+        steps("sleep and wake round, whole", 6, 0.2),
         Row {
             name: "setting up",
             work: Work::SetUp,
-            units: 1,
+            units: 1.0,
             turns: 20_000,
             counted: 1000,
         },
         Row {
             name: "session of 65,536 bytes, a line",
             work: Work::Session,
-            units: lines,
+            units: lines as f64,
             turns: 2,
             counted: 1,
         },
@@ -181,8 +181,8 @@ fn main() {
 
     println!("row\tns ours\tns plain\tratio\tinstructions ours\tinstructions plain\tratio");
     for (number, row) in rows.iter().enumerate() {
-        let ns = timed(row, &mut given).map(|spent| spent / row.units as f64);
-        let count = |side| counted(row, number, side).map(|count| count / row.units as f64);
+        let ns = timed(row, &mut given).map(|spent| spent / row.units);
+        let count = |side| counted(row, number, side).map(|count| count / row.units);
         let (ours, plain) = (count(Side::Ours), count(Side::Plain));
         let ratio = ours.zip(plain).map(|(ours, plain)| ours / plain);
         println!(

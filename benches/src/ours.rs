@@ -1,4 +1,4 @@
-//! The proved loops of `crates/loops`, as `rt staticlib` exports them. A slice is its address and its length.
+//! The proved loops of `crates/loops` and `crates/session_loop`, as `rt staticlib` exports them. A slice is its address and its length.
 
 mod exported {
     extern "C" {

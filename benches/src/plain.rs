@@ -1,4 +1,4 @@
-//! The same loops over the plain model of `tests/model`, turn by turn as in `crates/loops/specs`.
+//! The same loops over the plain model of `tests/model`, step by step as in `crates/loops/specs`.
 
 use model::{set_up as set_up_machine, Machine, Settings, Step};
 
@@ -16,8 +16,6 @@ fn settings(power_override: bool) -> Settings {
 struct Ports {
     sts_a: u64,
     sts_b: u64,
-    en_a: u64,
-    en_b: u64,
     cnt_a: u64,
     cnt_b: u64,
 }
@@ -25,7 +23,51 @@ struct Ports {
 struct Run {
     machine: Machine,
     value: u32,
+    older: u32,
     sum: u64,
+}
+
+#[derive(Clone, Copy)]
+enum Row {
+    StatusRead,
+    WriteBack,
+    Events,
+    Tick,
+    Ticks,
+    Interrupt,
+    Sleep,
+}
+
+fn row_of(number: u32) -> Row {
+    match number {
+        0 => Row::StatusRead,
+        1 => Row::WriteBack,
+        2 => Row::Events,
+        3 => Row::Tick,
+        4 => Row::Ticks,
+        5 => Row::Interrupt,
+        _ => Row::Sleep,
+    }
+}
+
+fn last_of(row: Row) -> u64 {
+    match row {
+        Row::Events => 6,
+        Row::Interrupt | Row::Sleep => 4,
+        _ => 0,
+    }
+}
+
+fn event_at(k: u64) -> Step {
+    match k {
+        0 => Step::Press,
+        1 => Step::Release,
+        2 => Step::Sleep,
+        3 => Step::Alarm,
+        4 => Step::Master,
+        5 => Step::Unlock,
+        _ => Step::Event(3),
+    }
 }
 
 fn read_at(port: u64) -> Step {
@@ -36,64 +78,38 @@ fn write_at(port: u64, data: u64) -> Step {
     Step::Write { port, width: 2, data }
 }
 
+fn step_at(row: Row, k: u64, p: &Ports, older: u32) -> Step {
+    match (row, k) {
+        (Row::StatusRead, _) => read_at(p.sts_a),
+        (Row::WriteBack, _) => write_at(p.sts_a, 0x8100),
+        (Row::Events, _) => event_at(k),
+        (Row::Tick, _) => Step::Tick(1),
+        (Row::Ticks, _) => Step::Tick(u32::MAX),
+        (Row::Interrupt, 0) => Step::Alarm,
+        (Row::Interrupt, 1) => read_at(p.sts_a),
+        (Row::Interrupt, 2) => read_at(p.sts_b),
+        (Row::Interrupt, 3) => write_at(p.sts_a, older.into()),
+        (Row::Interrupt, _) => write_at(p.sts_b, older.into()),
+        (Row::Sleep, 0) => write_at(p.cnt_a, 0x3400),
+        (Row::Sleep, 1) => write_at(p.cnt_b, 0x2800),
+        (Row::Sleep, 2) => Step::Alarm,
+        (Row::Sleep, 3) => write_at(p.sts_a, 0x8000),
+        (Row::Sleep, _) => write_at(p.sts_b, 0x0400),
+    }
+}
+
 impl Run {
     fn done(&mut self, step: &Step) {
         let (number, value) = self.machine.step(step);
+        self.older = self.value;
         self.value = value;
         self.sum = self.sum.wrapping_add(u64::from(number) + u64::from(value));
     }
 
-    fn prepare(&mut self, p: &Ports) {
-        self.done(&Step::Write {
-            port: 0xB2,
-            width: 1,
-            data: 0xE1,
-        });
-        self.done(&Step::Take);
-        self.done(&write_at(p.en_a, 0x0100));
-        self.done(&write_at(p.en_b, 0x0400));
-        self.done(&Step::Master);
-    }
-
-    fn events(&mut self) {
-        self.done(&Step::Press);
-        self.done(&Step::Release);
-        self.done(&Step::Sleep);
-        self.done(&Step::Alarm);
-        self.done(&Step::Master);
-        self.done(&Step::Unlock);
-        self.done(&Step::Event(3));
-    }
-
-    fn interrupt(&mut self, p: &Ports) {
-        self.done(&Step::Alarm);
-        self.done(&read_at(p.sts_a));
-        let a = self.value;
-        self.done(&read_at(p.sts_b));
-        let b = self.value;
-        self.done(&write_at(p.sts_a, a.into()));
-        self.done(&write_at(p.sts_b, b.into()));
-        let lines = u64::from(self.machine.sci()) + 2 * u64::from(self.machine.smi());
-        self.sum = self.sum.wrapping_add(lines);
-    }
-
-    fn sleep(&mut self, p: &Ports) {
-        self.done(&write_at(p.cnt_a, 0x3400));
-        self.done(&write_at(p.cnt_b, 0x2800));
-        self.done(&Step::Alarm);
-        self.done(&write_at(p.sts_a, 0x8000));
-        self.done(&write_at(p.sts_b, 0x0400));
-    }
-
-    fn turn(&mut self, row: u32, p: &Ports) {
-        match row {
-            0 => self.done(&read_at(p.sts_a)),
-            1 => self.done(&write_at(p.sts_a, 0x8100)),
-            2 => self.events(),
-            3 => self.done(&Step::Tick(1)),
-            4 => self.done(&Step::Tick(u32::MAX)),
-            5 => self.interrupt(p),
-            _ => self.sleep(p),
+    fn lines_if(&mut self, row: Row, k: u64) {
+        if let (Row::Interrupt, 4) = (row, k) {
+            let lines = u64::from(self.machine.sci()) + 2 * u64::from(self.machine.smi());
+            self.sum = self.sum.wrapping_add(lines);
         }
     }
 }
@@ -103,22 +119,27 @@ pub fn steps(table: &[u8], base: u64, row: u32, n: u64) -> u64 {
     let p = Ports {
         sts_a: base,
         sts_b: base.wrapping_add(0x40),
-        en_a: base.wrapping_add(0x02),
-        en_b: base.wrapping_add(0x42),
         cnt_a: base.wrapping_add(0x04),
         cnt_b: base.wrapping_add(0x44),
     };
-    let Ok(machine) = set_up_machine(table, &settings(false)) else {
+    let Ok(mut machine) = set_up_machine(table, &settings(false)) else {
         return 0;
     };
+    machine.status = 0x0010;
+    machine.enable = 0x0500;
+    machine.sci_en = true;
     let mut run = Run {
         machine,
         value: 0,
+        older: 0,
         sum: 0,
     };
-    run.prepare(&p);
+    let row = row_of(row);
+    let mut k = 0;
     for _ in 0..n {
-        run.turn(row, &p);
+        run.done(&step_at(row, k, &p, run.older));
+        run.lines_if(row, k);
+        k = if k < last_of(row) { k + 1 } else { 0 };
     }
     run.sum
         .wrapping_add(run.machine.status.into())

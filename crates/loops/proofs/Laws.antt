@@ -1,28 +1,26 @@
--- Laws for the loops: one turn, and the end. Assumes nothing.
+-- Laws for the loops: one turn, and the end; and for a match on a place. Assumes nothing.
 use mathlib.Core.List.{List}
 use mathlib.Core.Path.{_≡_, refl}
-use Prim.Native.Nat.{ℕ, zero, suc}
-use lib.ListN.{length}
-use Rattle.session.specs.Session.{textFor, platformLineReads, settled, unread, listing, bufferAfter}
-use Rattle.session.proofs.Laws.{put-length}
-use Rattle.listing.specs.Entry.{putAt}
-use Rattle.platform.specs.Answer.{answerNumber}
-use lib.Dec.{eqb}
-use mathlib.Core.Bool.{Bool, true, false, cond}
-use Rattle.loops.specs.Rows.{turnOf, turnsOf}
-use Rattle.loops.specs.Whole.{setUpTurn, setUpsOf, sessionTurn, sumAfter, buffersAfter}
+use Prim.Native.Nat.{ℕ, zero, suc, _+_, _≤_}
+use native.Mathlib.Omega.{arith}
+use Rattle.loops.specs.Rows.{stepAt, nextPlace, doneOf, linesIf, stepsOf}
+use Rattle.loops.specs.SetUps.{setUpTurn, setUpsOf}
 use Rattle.loops.specs.declared.Ports.{Ports}
 use Rattle.loops.specs.declared.Row.{Row}
 use Rattle.loops.specs.declared.Run.{Run}
 
-module _ (row : Row) (p : Ports) where
-  pub turns-turn : (n : ℕ) (r : Run) → turnsOf row p (suc n) r ≡ turnsOf row p n (turnOf row p r)
-  unfolding turnsOf
-  turns-turn n r = refl
+-- a place from k on that is not k
+pub past : (k p : ℕ) → k ≤ p → (p ≡ k → ⊥) → k + 1 ≤ p
+past k p h x = omega arith
 
-  pub turns-end : (r : Run) → turnsOf row p zero r ≡ r
-  unfolding turnsOf
-  turns-end r = refl
+module _ (x : Row) (p : Ports) where
+  pub steps-turn : (n k : ℕ) (r : Run) → stepsOf x p (suc n) k r ≡ stepsOf x p n (nextPlace x k) (linesIf x k (doneOf r (stepAt x k p (r .older))))
+  unfolding stepsOf
+  steps-turn n k r = refl
+
+  pub steps-end : (k : ℕ) (r : Run) → stepsOf x p zero k r ≡ r
+  unfolding stepsOf
+  steps-end k r = refl
 
 module _ (table : List ℕ) where
   pub set-ups-turn : (n sum : ℕ) → setUpsOf table (suc n) sum ≡ setUpsOf table n (setUpTurn table sum)
@@ -32,32 +30,3 @@ module _ (table : List ℕ) where
   pub set-ups-end : (sum : ℕ) → setUpsOf table zero sum ≡ sum
   unfolding setUpsOf
   set-ups-end sum = refl
-
-  module _ (script : List ℕ) where
-    pub sum-turn : (n : ℕ) (buffer : List ℕ) (sum : ℕ)
-        → sumAfter table script (suc n) buffer sum ≡ sumAfter table script n (bufferAfter table script buffer) (sessionTurn table script (length buffer) sum)
-    unfolding sumAfter
-    sum-turn n buffer sum = refl
-
-    pub sum-end : (buffer : List ℕ) (sum : ℕ) → sumAfter table script zero buffer sum ≡ sum
-    unfolding sumAfter
-    sum-end buffer sum = refl
-
-    pub buffers-turn : (n : ℕ) (buffer : List ℕ) → buffersAfter table script (suc n) buffer ≡ buffersAfter table script n (bufferAfter table script buffer)
-    unfolding buffersAfter
-    buffers-turn n buffer = refl
-
-    pub buffers-end : (buffer : List ℕ) → buffersAfter table script zero buffer ≡ buffer
-    unfolding buffersAfter
-    buffers-end buffer = refl
-
-    -- a session keeps the buffer's length
-    pub buffer-length : (buffer : List ℕ) → length (bufferAfter table script buffer) ≡ length buffer
-    unfolding bufferAfter textFor
-    buffer-length buffer = go (platformLineReads script) (eqb (answerNumber (settled table script .answer)) 0) (eqb (unread script) 0)
-      where
-        go : (a b c : Bool) → length (cond a (cond b (cond c (putAt buffer 0 (listing table script)) buffer) buffer) buffer) ≡ length buffer
-        go true true true = put-length buffer 0 (listing table script)
-        go true true false = refl
-        go true false c = refl
-        go false b c = refl

@@ -4,7 +4,7 @@ use mathlib.Core.Path.{_≡_, refl, sym, _∙_}
 use Prim.Native.Nat.{suc, _-_}
 use borrow.Author.Needs.{needs}
 use native.Mathlib.Omega.{arith}
-use Rattle.loops.specs.Whole.{setUpsOf}
+use Rattle.loops.specs.SetUps.{setUpsOf}
 use Rattle.loops.proofs.Laws.{set-ups-turn, set-ups-end}
 use Rattle.loops.proofs.loops_set_up.Statement.{statement}
 use Rattle.loops.proofs.loops_set_up.Tie as tie

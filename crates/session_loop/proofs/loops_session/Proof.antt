@@ -1,14 +1,14 @@
--- `loops::loops_session` meets its contract. The loop's invariant: the sessions that are left, from the sum and the buffer as they are, give what
+-- `session_loop::loops_session` meets its contract. The loop's invariant: the sessions that are left, from the sum and the buffer as they are, give what
 -- all of them give from the start. Assumes nothing.
 use mathlib.Core.Path.{_≡_, refl, sym, ap, _∙_}
 use Prim.Native.Nat.{suc, _-_}
 use borrow.Author.Needs.{needs}
 use native.Mathlib.Omega.{arith}
 use lib.ListN.{length}
-use Rattle.loops.specs.Whole.{sumAfter, buffersAfter}
-use Rattle.loops.proofs.Laws.{sum-turn, sum-end, buffers-turn, buffers-end, buffer-length}
-use Rattle.loops.proofs.loops_session.Statement.{statement}
-use Rattle.loops.proofs.loops_session.Tie as tie
+use Rattle.session_loop.specs.Sessions.{sumAfter, buffersAfter}
+use Rattle.session_loop.proofs.Laws.{sum-turn, sum-end, buffers-turn, buffers-end, buffer-length}
+use Rattle.session_loop.proofs.loops_session.Statement.{statement}
+use Rattle.session_loop.proofs.loops_session.Tie as tie
 
 abbrev Inv-loop : tie.InvT-loop
 Inv-loop table script buf₀ n sum₀ left₀ buf sum left =
