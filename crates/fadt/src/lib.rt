@@ -3,10 +3,11 @@ use platform::Block;
 use platform::SetUpAnswer;
 use platform::Settings;
 use sleep::SleepTable;
+use std::num::wrapping_add_u8;
 ghost use mathlib.Core.Path.{_≡_};
 ghost use mathlib.Core.Bool.{cond};
 ghost use lib.ListN.{take, getD};
-ghost use Prim.Native.Nat.{_%_};
+ghost use Prim.Native.Nat.{_+_, _*_, _%_};
 ghost use Rattle.platform.specs.Answer.{firstFailing};
 ghost use Rattle.fadt.specs.Table.{
   sum,
@@ -92,15 +93,26 @@ fn byte(table: &[u8], i: usize) -> u8
 }
 
 // Four bytes, the lowest first.
+fn joined(b0: u8, b1: u8, b2: u8, b3: u8) -> u32
+    ensures { λ r. ⌜ r ≡ b0 + 256 * b1 + 65536 * b2 + 16777216 * b3 ⌝ }
+{
+    b0 as u32 + 256 * (b1 as u32) + 65536 * (b2 as u32) + 16777216 * (b3 as u32)
+}
+
+// The four bytes from a place on; within the table they are read at once.
 fn dword_at(table: &[u8], at: u8) -> u32
     ensures { λ r. ⌜ r ≡ dword (now (table .entry)) at ⌝ }
 {
     let i = at as usize;
-    let b0 = byte(table, i) as u32;
-    let b1 = byte(table, i + 1) as u32;
-    let b2 = byte(table, i + 2) as u32;
-    let b3 = byte(table, i + 3) as u32;
-    b0 + 256 * b1 + 65536 * b2 + 16777216 * b3
+    if i + 3 < table.len() {
+        return joined(table[i], table[i + 1], table[i + 2], table[i + 3]);
+    }
+    joined(
+        byte(table, i),
+        byte(table, i + 1),
+        byte(table, i + 2),
+        byte(table, i + 3),
+    )
 }
 
 fn table_short(table: &[u8]) -> bool
@@ -126,20 +138,28 @@ fn wrong_length(table: &[u8]) -> bool
     (n < 116) | (table.len() < n)
 }
 
-// The sum of the first n bytes, modulo 256.
-fn sum_of(table: &[u8], n: usize) -> u64
-    ensures { λ r. ⌜ r ≡ sum (take n (now (table .entry))) % 256 ⌝ }
+// The sum of the bytes, modulo 256.
+fn sum_all(bytes: &[u8]) -> u8
+    ensures { λ r. ⌜ r ≡ sum (now (bytes .entry)) % 256 ⌝ }
 {
-    let mut total: u64 = 0;
+    let mut total: u8 = 0;
     let mut i: usize = 0;
-    while i < n {
-        if table.len() <= i {
-            return total;
-        }
-        total = (total + table[i] as u64) % 256;
+    while i < bytes.len() {
+        total = wrapping_add_u8(total, bytes[i]);
         i += 1;
     }
     total
+}
+
+// .. of the first n, or of all where there are fewer.
+fn sum_of(table: &[u8], n: usize) -> u8
+    ensures { λ r. ⌜ r ≡ sum (take n (now (table .entry))) % 256 ⌝ }
+{
+    if n < table.len() {
+        sum_all(&table[..n])
+    } else {
+        sum_all(table)
+    }
 }
 
 fn wrong_sum(table: &[u8]) -> bool

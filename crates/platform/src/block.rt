@@ -32,11 +32,8 @@ pub fn holds_port(b: Block, port: u64) -> bool
 pub fn overlaps(a: Block, b: Block) -> bool
     ensures { λ r. ⌜ r ≡ overlap a b ⌝ }
 {
-    if is_present(a) {
-        if is_present(b) {
-            return holds_port(a, b.address) | holds_port(b, a.address);
-        }
-        return false;
+    if is_present(a) & is_present(b) {
+        return holds_port(a, b.address) | holds_port(b, a.address);
     }
     false
 }

@@ -4,11 +4,39 @@ use borrow.Author.Needs.{needs}
 use Rattle.fadt.proofs.dword_at.Statement.{statement}
 use Rattle.fadt.proofs.dword_at.Tie as tie
 
+add-if1 : tie.Need-add-if1
+add-if1 c = search needs
+
+shared-slice-read-joined : tie.Need-shared-slice-read-joined
+shared-slice-read-joined c = search needs
+
+add-joined : tie.Need-add-joined
+add-joined c = search needs
+
+shared-slice-read-joined-2 : tie.Need-shared-slice-read-joined-2
+shared-slice-read-joined-2 c = search needs
+
+add-joined-2 : tie.Need-add-joined-2
+add-joined-2 c = search needs
+
+shared-slice-read-joined-3 : tie.Need-shared-slice-read-joined-3
+shared-slice-read-joined-3 c = search needs
+
+add-joined-3 : tie.Need-add-joined-3
+add-joined-3 c = search needs
+
+shared-slice-read-joined-4 : tie.Need-shared-slice-read-joined-4
+shared-slice-read-joined-4 c = search needs
+
+joined-requires : tie.Need-joined-requires
+joined-requires c κs = search needs
+
+returns : tie.Need-returns
+unfolding dword
+returns c = simp (c .joined .ensures, c .before .before .before .before .before .if1 .taken)
+
 byte-requires : tie.Need-byte-requires
 byte-requires c κs = search needs
-
-cast-b0 : tie.Need-cast-b0
-cast-b0 c = search needs
 
 add-byte : tie.Need-add-byte
 add-byte c = search needs
@@ -16,17 +44,11 @@ add-byte c = search needs
 byte-requires-2 : tie.Need-byte-requires-2
 byte-requires-2 c κs = search needs
 
-cast-b1 : tie.Need-cast-b1
-cast-b1 c = search needs
-
 add-byte-2 : tie.Need-add-byte-2
 add-byte-2 c = search needs
 
 byte-requires-3 : tie.Need-byte-requires-3
 byte-requires-3 c κs = search needs
-
-cast-b2 : tie.Need-cast-b2
-cast-b2 c = search needs
 
 add-byte-3 : tie.Need-add-byte-3
 add-byte-3 c = search needs
@@ -34,50 +56,33 @@ add-byte-3 c = search needs
 byte-requires-4 : tie.Need-byte-requires-4
 byte-requires-4 c κs = search needs
 
-cast-b3 : tie.Need-cast-b3
-cast-b3 c = search needs
+joined-requires-2 : tie.Need-joined-requires-2
+joined-requires-2 c κs = search needs
 
-mul-result : tie.Need-mul-result
-mul-result c = search needs
-
-add-result : tie.Need-add-result
-add-result c = search needs
-
-mul-result-2 : tie.Need-mul-result-2
-mul-result-2 c = search needs
-
-add-result-2 : tie.Need-add-result-2
-add-result-2 c = search needs
-
-mul-result-3 : tie.Need-mul-result-3
-mul-result-3 c = search needs
-
-add-result-3 : tie.Need-add-result-3
-add-result-3 c = search needs
-
-returns : tie.Need-returns
+returns-2 : tie.Need-returns-2
 unfolding dword
-returns c = simp (c .byte4 .ensures, c .before .byte3 .ensures, c .before .before .byte2 .ensures, c .before .before .before .byte .ensures)
+returns-2 c = simp (c .joined2 .ensures, c .before .byte4 .ensures, c .before .before .byte3 .ensures, c .before .before .before .byte2 .ensures, c .before .before .before .before .byte .ensures, c .before .before .before .before .before .if1 .left)
 
 pub dword-at-spec : {M : Type 1} → statement M
 dword-at-spec =
     tie.close
     (tie.spec
+    add-if1
+    shared-slice-read-joined
+    add-joined
+    shared-slice-read-joined-2
+    add-joined-2
+    shared-slice-read-joined-3
+    add-joined-3
+    shared-slice-read-joined-4
+    joined-requires
+    returns
     byte-requires
-    cast-b0
     add-byte
     byte-requires-2
-    cast-b1
     add-byte-2
     byte-requires-3
-    cast-b2
     add-byte-3
     byte-requires-4
-    cast-b3
-    mul-result
-    add-result
-    mul-result-2
-    add-result-2
-    mul-result-3
-    add-result-3
-    returns)
+    joined-requires-2
+    returns-2)

@@ -1,9 +1,14 @@
--- `platform::block::overlaps` meets its contract: what its calls and tests say, put together, is the definition. Assumes nothing.
-use mathlib.Core.Path.{sym, _∙_}
-use Rattle.platform.specs.Blocks.{overlap}
+-- `platform::block::overlaps` meets its contract: the ports are compared where both blocks are present. Assumes nothing.
+use mathlib.Core.Path.{_≡_, refl}
+use mathlib.Core.Bool.{Bool, true, false, _&&_}
 use borrow.Author.Needs.{needs}
+use Rattle.platform.specs.Blocks.{overlap}
 use Rattle.platform.proofs.block.overlaps.Statement.{statement}
 use Rattle.platform.proofs.block.overlaps.Tie as tie
+
+and-assoc : (a b c : Bool) → (a && (b && c)) ≡ ((a && b) && c)
+and-assoc true b c = refl
+and-assoc false b c = refl
 
 is-present-requires : tie.Need-is-present-requires
 is-present-requires c κs = search needs
@@ -19,15 +24,12 @@ holds-port-requires-2 c κs = search needs
 
 returns : tie.Need-returns
 unfolding overlap
-returns c = simp (c .holds-port2 .ensures, c .before .holds-port .ensures, sym (c .before .before .before .is-present2 .ensures) ∙ c .before .before .if2 .taken, sym (c .before .before .before .before .before .is-present .ensures) ∙ c .before .before .before .before .if1 .taken)
+returns c =
+    rw (and-assoc, ← c .before .before .before .is-present2 .ensures, ← c .before .before .before .before .is-present .ensures, c .before .before .if1 .taken, c .holds-port2 .ensures, c .before .holds-port .ensures)
 
 returns-2 : tie.Need-returns-2
 unfolding overlap
-returns-2 c = simp (sym (c .before .is-present2 .ensures) ∙ c .if2 .left, sym (c .before .before .before .is-present .ensures) ∙ c .before .before .if1 .taken)
-
-returns-3 : tie.Need-returns-3
-unfolding overlap
-returns-3 c = simp (sym (c .before .is-present .ensures) ∙ c .if1 .left)
+returns-2 c = rw (and-assoc, ← c .before .is-present2 .ensures, ← c .before .before .is-present .ensures, c .if1 .left)
 
 pub overlaps-spec : {M : Type 1} → statement M
 overlaps-spec =
@@ -38,5 +40,4 @@ overlaps-spec =
     holds-port-requires
     holds-port-requires-2
     returns
-    returns-2
-    returns-3)
+    returns-2)
