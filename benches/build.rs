@@ -1,7 +1,8 @@
 //! Links the proved loops: `rt staticlib` writes an archive for each of the two crates.
 
 fn main() {
-    let archives = concat!(env!("CARGO_MANIFEST_DIR"), "/../target/staticlib");
+    let here = std::env::var("CARGO_MANIFEST_DIR").expect("cargo says where the package is");
+    let archives = format!("{here}/../target/staticlib");
     println!("cargo:rustc-link-search=native={archives}");
     for name in ["loops", "session_loop"] {
         println!("cargo:rustc-link-lib=static={name}");

@@ -4,10 +4,11 @@ ghost use mathlib.Core.Path.{_≡_};
 ghost use Rattle.model.specs.Answer.{numberOf, valueOf};
 ghost use Rattle.model.specs.Step.{accepted};
 
-// A bus access: its first port, and its width in bytes.
+// A bus access: its width in bytes, and its first port. In this order the port is a word of its own within a step, and a copied
+// step is read back as it was written.
 pub struct Access {
-    pub port: u64,
     pub width: u32,
+    pub port: u64,
 }
 
 // What comes from outside the bus and the firmware, and may come between the halves of a split access.

@@ -18,6 +18,9 @@ isHexAt line n = isNumber 16 16 (fieldAt line n)
 abbrev pub hexAt : List ℕ → ℕ → ℕ
 hexAt line n = numberOf 16 16 (fieldAt line n)
 
--- field n is a number below the limit
-unfoldable pub hexBelow : ℕ → List ℕ → ℕ → Bool
-hexBelow limit line n = isHexAt line n && ltb (hexAt line n) limit
+-- a number below the limit
+unfoldable pub isBelow : ℕ → List ℕ → Bool
+isBelow limit digits = isNumber 16 16 digits && ltb (numberOf 16 16 digits) limit
+
+abbrev pub hexBelow : ℕ → List ℕ → ℕ → Bool
+hexBelow limit line n = isBelow limit (fieldAt line n)

@@ -8,7 +8,8 @@ use Rattle.text.specs.Parts.{fieldsOf, sameText}
 use Rattle.model.specs.declared.Access.{Access}
 use Rattle.model.specs.declared.Event.the-variants as event
 use Rattle.model.specs.declared.Step.the-variants as step
-use Rattle.script.specs.Fields.{fieldAt, isHexAt, hexAt, hexBelow}
+use Rattle.text.specs.Numbers.{isNumber}
+use Rattle.script.specs.Fields.{fieldAt, isHexAt, hexAt, isBelow, hexBelow}
 use Rattle.script.specs.Words.{rWord, wWord, pressWord, releaseWord, sleepWord, alarmWord, wakeWord, masterWord, unlockWord, eventWord, tickWord, takeWord, dropWord}
 use Rattle.script.specs.declared.step_line.Line.{Line}
 use Rattle.script.specs.declared.step_line.Line.the-variants as line
@@ -40,16 +41,16 @@ abbrev pub accessIn : List ℕ → Access
 accessIn l = record { port = hexAt l 1; width = hexAt l 2 }
 
 -- "PORT below 2^64, WIDTH below 2^32"
-unfoldable pub accessReads : List ℕ → Bool
-accessReads l = isHexAt l 1 && hexBelow (2 ^ 32) l 2
+unfoldable pub accessReads : List ℕ → List ℕ → Bool
+accessReads port width = isNumber 16 16 port && isBelow (2 ^ 32) width
 
 -- "r PORT WIDTH"
 unfoldable pub readLine : List ℕ → Line
-readLine l = cond (sameText (fieldAt l 0) rWord && accessReads l) (line.Step (step.Read (accessIn l))) line.Unread
+readLine l = cond (sameText (fieldAt l 0) rWord && accessReads (fieldAt l 1) (fieldAt l 2)) (line.Step (step.Read (accessIn l))) line.Unread
 
 -- "w PORT WIDTH DATA", "DATA below 2^64"
 unfoldable pub writeLine : List ℕ → Line
-writeLine l = cond (sameText (fieldAt l 0) wWord && (accessReads l && isHexAt l 3)) (line.Step (step.Write (accessIn l) (hexAt l 3))) line.Unread
+writeLine l = cond (sameText (fieldAt l 0) wWord && (accessReads (fieldAt l 1) (fieldAt l 2) && isHexAt l 3)) (line.Step (step.Write (accessIn l) (hexAt l 3))) line.Unread
 
 -- "Each later line is one step"; "A line that is none of these, or a number that does not fit, does not read."
 unfoldable pub lineOf : List ℕ → Line

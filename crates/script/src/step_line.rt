@@ -1,13 +1,13 @@
 // A line as a step.
-use crate::hex_fields::hex_below;
+use crate::hex_fields::is_below;
 use model::Access;
 use model::Event;
 use model::Step;
 use text::field;
 use text::field_count;
-use text::field_hex;
 use text::field_is;
-use text::field_is_hex;
+use text::hex_value;
+use text::is_hex;
 use text::same;
 ghost use mathlib.Core.Path.{_≡_};
 ghost use Rattle.script.specs.StepLine.{loneLine, countLine, accessReads, readLine, writeLine, lineOf};
@@ -55,8 +55,9 @@ fn lone_line(word: &[u8]) -> Line
 fn count_line(line: &[u8]) -> Line
     ensures { λ r. ⌜ r ≡ countLine (now (line .entry)) ⌝ }
 {
-    if hex_below(line, 1, 0x100000000) {
-        let n = field_hex(line, 1) as u32;
+    let digits = field(line, 1);
+    if is_below(digits, 0x100000000) {
+        let n = hex_value(digits) as u32;
         if field_is(line, 0, b"event") {
             return Line::Step(Step::Event(Event::General(n)));
         }
@@ -68,11 +69,11 @@ fn count_line(line: &[u8]) -> Line
     Line::Unread
 }
 
-// Whether fields 1 and 2 are a port and a width.
-fn access_reads(line: &[u8]) -> bool
-    ensures { λ r. ⌜ r ≡ accessReads (now (line .entry)) ⌝ }
+// Whether a port and a width read.
+fn access_reads(port: &[u8], width: &[u8]) -> bool
+    ensures { λ r. ⌜ r ≡ accessReads (now (port .entry)) (now (width .entry)) ⌝ }
 {
-    field_is_hex(line, 1) & hex_below(line, 2, 0x100000000)
+    is_hex(port) & is_below(width, 0x100000000)
 }
 
 // "r PORT WIDTH".
@@ -80,10 +81,13 @@ fn read_line(line: &[u8]) -> Line
     ensures { λ r. ⌜ r ≡ readLine (now (line .entry)) ⌝ }
 {
     if field_is(line, 0, b"r") {
-        if access_reads(line) {
-            let port = field_hex(line, 1);
-            let width = field_hex(line, 2) as u32;
-            return Line::Step(Step::Read(Access { port, width }));
+        let port = field(line, 1);
+        let width = field(line, 2);
+        if access_reads(port, width) {
+            return Line::Step(Step::Read(Access {
+                port: hex_value(port),
+                width: hex_value(width) as u32,
+            }));
         }
     }
     Line::Unread
@@ -94,12 +98,16 @@ fn write_line(line: &[u8]) -> Line
     ensures { λ r. ⌜ r ≡ writeLine (now (line .entry)) ⌝ }
 {
     if field_is(line, 0, b"w") {
-        if access_reads(line) {
-            if field_is_hex(line, 3) {
-                let port = field_hex(line, 1);
-                let width = field_hex(line, 2) as u32;
-                let written = field_hex(line, 3);
-                return Line::Step(Step::Write(Access { port, width }, written));
+        let port = field(line, 1);
+        let width = field(line, 2);
+        let written = field(line, 3);
+        if access_reads(port, width) {
+            if is_hex(written) {
+                let access = Access {
+                    port: hex_value(port),
+                    width: hex_value(width) as u32,
+                };
+                return Line::Step(Step::Write(access, hex_value(written)));
             }
         }
     }

@@ -15,7 +15,7 @@ field-hex-requires c κs = search needs
 
 cast-result : tie.Need-cast-result
 cast-result c =
-    omega (arith, c .field-hex .ensures, number-below _ _ _ (sym (c .before .before .hex-below .ensures) ∙ c .before .if1 .taken))
+    omega (arith, c .field-hex .ensures, number-below _ _ (sym (c .before .before .hex-below .ensures) ∙ c .before .if1 .taken))
 
 returns : tie.Need-returns
 unfolding homesAt

@@ -4,15 +4,15 @@ use borrow.Author.Needs.{needs}
 use Rattle.script.proofs.step_line.access_reads.Statement.{statement}
 use Rattle.script.proofs.step_line.access_reads.Tie as tie
 
-field-is-hex-requires : tie.Need-field-is-hex-requires
-field-is-hex-requires c κs = search needs
+is-hex-requires : tie.Need-is-hex-requires
+is-hex-requires c κs = search needs
 
-hex-below-requires : tie.Need-hex-below-requires
-hex-below-requires c κs = search needs
+is-below-requires : tie.Need-is-below-requires
+is-below-requires c κs = search needs
 
 returns : tie.Need-returns
 unfolding accessReads
-returns c = simp (c .hex-below .ensures, c .before .field-is-hex .ensures)
+returns c = simp (c .is-below .ensures, c .before .is-hex .ensures)
 
 pub access-reads-spec : {M : Type 1} → statement M
-access-reads-spec = tie.close (tie.spec field-is-hex-requires hex-below-requires returns)
+access-reads-spec = tie.close (tie.spec is-hex-requires is-below-requires returns)

@@ -7,15 +7,17 @@ use borrow.Author.Needs.{needs}
 use Rattle.script.proofs.step_line.count_line.Statement.{statement}
 use Rattle.script.proofs.step_line.count_line.Tie as tie
 
-hex-below-requires : tie.Need-hex-below-requires
-hex-below-requires c κs = search needs
+field-requires : tie.Need-field-requires
+field-requires c κs = search needs
 
-field-hex-requires : tie.Need-field-hex-requires
-field-hex-requires c κs = search needs
+is-below-requires : tie.Need-is-below-requires
+is-below-requires c κs = search needs
+
+hex-value-requires : tie.Need-hex-value-requires
+hex-value-requires c κs = search needs
 
 cast-n : tie.Need-cast-n
-cast-n c =
-    omega (arith, c .field-hex .ensures, number-below _ _ 1 (sym (c .before .before .hex-below .ensures) ∙ c .before .if1 .taken))
+cast-n c = omega (arith, c .hex-value .ensures, number-below _ _ (sym (c .before .before .is-below .ensures) ∙ c .before .if1 .taken))
 
 slice-aggregate-field-is : tie.Need-slice-aggregate-field-is
 slice-aggregate-field-is c = search needs
@@ -25,7 +27,7 @@ field-is-requires c κs = search needs
 
 returns : tie.Need-returns
 unfolding countLine
-returns c = simp (sym (c .before .field-is .ensures) ∙ c .if2 .taken, c .before .before .before .field-hex .ensures, sym (c .before .before .before .before .before .hex-below .ensures) ∙ c .before .before .before .before .if1 .taken)
+returns c = rw (← c .before .before .before .before .before .before .field .ensures, sym (c .before .field-is .ensures) ∙ c .if2 .taken, c .before .before .before .hex-value .ensures, sym (c .before .before .before .before .before .is-below .ensures) ∙ c .before .before .before .before .if1 .taken)
 
 slice-aggregate-field-is-2 : tie.Need-slice-aggregate-field-is-2
 slice-aggregate-field-is-2 c = search needs
@@ -35,22 +37,23 @@ field-is-requires-2 c κs = search needs
 
 returns-2 : tie.Need-returns-2
 unfolding countLine
-returns-2 c = simp (sym (c .before .field-is2 .ensures) ∙ c .if3 .taken, sym (c .before .before .before .before .field-is .ensures) ∙ c .before .before .before .if2 .left, c .before .before .before .before .before .before .field-hex .ensures, sym (c .before .before .before .before .before .before .before .before .hex-below .ensures) ∙ c .before .before .before .before .before .before .before .if1 .taken)
+returns-2 c = rw (← c .before .before .before .before .before .before .before .before .before .field .ensures, sym (c .before .field-is2 .ensures) ∙ c .if3 .taken, sym (c .before .before .before .before .field-is .ensures) ∙ c .before .before .before .if2 .left, c .before .before .before .before .before .before .hex-value .ensures, sym (c .before .before .before .before .before .before .before .before .is-below .ensures) ∙ c .before .before .before .before .before .before .before .if1 .taken)
 
 returns-3 : tie.Need-returns-3
 unfolding countLine
-returns-3 c = simp (sym (c .before .field-is2 .ensures) ∙ c .if3 .left, sym (c .before .before .before .before .field-is .ensures) ∙ c .before .before .before .if2 .left, c .before .before .before .before .before .before .field-hex .ensures, sym (c .before .before .before .before .before .before .before .before .hex-below .ensures) ∙ c .before .before .before .before .before .before .before .if1 .taken)
+returns-3 c = rw (← c .before .before .before .before .before .before .before .before .before .field .ensures, sym (c .before .field-is2 .ensures) ∙ c .if3 .left, sym (c .before .before .before .before .field-is .ensures) ∙ c .before .before .before .if2 .left, sym (c .before .before .before .before .before .before .before .before .is-below .ensures) ∙ c .before .before .before .before .before .before .before .if1 .taken)
 
 returns-4 : tie.Need-returns-4
 unfolding countLine
-returns-4 c = simp (sym (c .before .hex-below .ensures) ∙ c .if1 .left)
+returns-4 c = rw (← c .before .before .field .ensures, sym (c .before .is-below .ensures) ∙ c .if1 .left)
 
 pub count-line-spec : {M : Type 1} → statement M
 count-line-spec =
     tie.close
     (tie.spec
-    hex-below-requires
-    field-hex-requires
+    field-requires
+    is-below-requires
+    hex-value-requires
     cast-n
     slice-aggregate-field-is
     field-is-requires

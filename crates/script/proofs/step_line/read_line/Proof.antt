@@ -13,26 +13,31 @@ slice-aggregate-field-is c = search needs
 field-is-requires : tie.Need-field-is-requires
 field-is-requires c κs = search needs
 
+field-requires : tie.Need-field-requires
+field-requires c κs = search needs
+
+field-requires-2 : tie.Need-field-requires-2
+field-requires-2 c κs = search needs
+
 access-reads-requires : tie.Need-access-reads-requires
 access-reads-requires c κs = search needs
 
-field-hex-requires : tie.Need-field-hex-requires
-field-hex-requires c κs = search needs
+hex-value-requires : tie.Need-hex-value-requires
+hex-value-requires c κs = search needs
 
-field-hex-requires-2 : tie.Need-field-hex-requires-2
-field-hex-requires-2 c κs = search needs
+hex-value-requires-2 : tie.Need-hex-value-requires-2
+hex-value-requires-2 c κs = search needs
 
-cast-width : tie.Need-cast-width
-cast-width c =
-    omega (arith, c .field-hex2 .ensures, width-below _ (sym (c .before .before .before .access-reads .ensures) ∙ c .before .before .if2 .taken))
+cast-t11 : tie.Need-cast-t11
+cast-t11 c = omega (arith, c .hex-value2 .ensures, width-below _ _ (sym (c .before .before .before .access-reads .ensures) ∙ c .before .before .if2 .taken))
 
 returns : tie.Need-returns
 unfolding readLine
-returns c = simp (c .field-hex2 .ensures, c .before .field-hex .ensures, sym (c .before .before .before .access-reads .ensures) ∙ c .before .before .if2 .taken, sym (c .before .before .before .before .before .field-is .ensures) ∙ c .before .before .before .before .if1 .taken)
+returns c = rw (← c .before .before .before .before .field2 .ensures, ← c .before .before .before .before .before .field .ensures, c .hex-value2 .ensures, c .before .hex-value .ensures, sym (c .before .before .before .access-reads .ensures) ∙ c .before .before .if2 .taken, sym (c .before .before .before .before .before .before .before .field-is .ensures) ∙ c .before .before .before .before .before .before .if1 .taken)
 
 returns-2 : tie.Need-returns-2
 unfolding readLine
-returns-2 c = simp (sym (c .before .access-reads .ensures) ∙ c .if2 .left, sym (c .before .before .before .field-is .ensures) ∙ c .before .before .if1 .taken)
+returns-2 c = rw (← c .before .before .field2 .ensures, ← c .before .before .before .field .ensures, sym (c .before .access-reads .ensures) ∙ c .if2 .left, sym (c .before .before .before .before .before .field-is .ensures) ∙ c .before .before .before .before .if1 .taken)
 
 returns-3 : tie.Need-returns-3
 unfolding readLine
@@ -44,10 +49,12 @@ read-line-spec =
     (tie.spec
     slice-aggregate-field-is
     field-is-requires
+    field-requires
+    field-requires-2
     access-reads-requires
-    field-hex-requires
-    field-hex-requires-2
-    cast-width
+    hex-value-requires
+    hex-value-requires-2
+    cast-t11
     returns
     returns-2
     returns-3)

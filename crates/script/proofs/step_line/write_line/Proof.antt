@@ -13,36 +13,44 @@ slice-aggregate-field-is c = search needs
 field-is-requires : tie.Need-field-is-requires
 field-is-requires c κs = search needs
 
+field-requires : tie.Need-field-requires
+field-requires c κs = search needs
+
+field-requires-2 : tie.Need-field-requires-2
+field-requires-2 c κs = search needs
+
+field-requires-3 : tie.Need-field-requires-3
+field-requires-3 c κs = search needs
+
 access-reads-requires : tie.Need-access-reads-requires
 access-reads-requires c κs = search needs
 
-field-is-hex-requires : tie.Need-field-is-hex-requires
-field-is-hex-requires c κs = search needs
+is-hex-requires : tie.Need-is-hex-requires
+is-hex-requires c κs = search needs
 
-field-hex-requires : tie.Need-field-hex-requires
-field-hex-requires c κs = search needs
+hex-value-requires : tie.Need-hex-value-requires
+hex-value-requires c κs = search needs
 
-field-hex-requires-2 : tie.Need-field-hex-requires-2
-field-hex-requires-2 c κs = search needs
+hex-value-requires-2 : tie.Need-hex-value-requires-2
+hex-value-requires-2 c κs = search needs
 
-cast-width : tie.Need-cast-width
-cast-width c =
-    omega (arith, c .field-hex2 .ensures, width-below _ (sym (c .before .before .before .before .before .access-reads .ensures) ∙ c .before .before .before .before .if2 .taken))
+cast-t14 : tie.Need-cast-t14
+cast-t14 c = omega (arith, c .hex-value2 .ensures, width-below _ _ (sym (c .before .before .before .before .before .access-reads .ensures) ∙ c .before .before .before .before .if2 .taken))
 
-field-hex-requires-3 : tie.Need-field-hex-requires-3
-field-hex-requires-3 c κs = search needs
+hex-value-requires-3 : tie.Need-hex-value-requires-3
+hex-value-requires-3 c κs = search needs
 
 returns : tie.Need-returns
 unfolding writeLine
-returns c = simp (c .field-hex3 .ensures, c .before .field-hex2 .ensures, c .before .before .field-hex .ensures, sym (c .before .before .before .before .field-is-hex .ensures) ∙ c .before .before .before .if3 .taken, sym (c .before .before .before .before .before .before .access-reads .ensures) ∙ c .before .before .before .before .before .if2 .taken, sym (c .before .before .before .before .before .before .before .before .field-is .ensures) ∙ c .before .before .before .before .before .before .before .if1 .taken)
+returns c = rw (← c .before .before .before .before .before .before .before .field3 .ensures, ← c .before .before .before .before .before .before .before .before .field2 .ensures, ← c .before .before .before .before .before .before .before .before .before .field .ensures, c .hex-value3 .ensures, c .before .hex-value2 .ensures, c .before .before .hex-value .ensures, sym (c .before .before .before .before .is-hex .ensures) ∙ c .before .before .before .if3 .taken, sym (c .before .before .before .before .before .before .access-reads .ensures) ∙ c .before .before .before .before .before .if2 .taken, sym (c .before .before .before .before .before .before .before .before .before .before .before .field-is .ensures) ∙ c .before .before .before .before .before .before .before .before .before .before .if1 .taken)
 
 returns-2 : tie.Need-returns-2
 unfolding writeLine
-returns-2 c = simp (sym (c .before .field-is-hex .ensures) ∙ c .if3 .left, sym (c .before .before .before .access-reads .ensures) ∙ c .before .before .if2 .taken, sym (c .before .before .before .before .before .field-is .ensures) ∙ c .before .before .before .before .if1 .taken)
+returns-2 c = rw (← c .before .before .before .before .field3 .ensures, ← c .before .before .before .before .before .field2 .ensures, ← c .before .before .before .before .before .before .field .ensures, sym (c .before .is-hex .ensures) ∙ c .if3 .left, sym (c .before .before .before .access-reads .ensures) ∙ c .before .before .if2 .taken, sym (c .before .before .before .before .before .before .before .before .field-is .ensures) ∙ c .before .before .before .before .before .before .before .if1 .taken)
 
 returns-3 : tie.Need-returns-3
 unfolding writeLine
-returns-3 c = simp (sym (c .before .access-reads .ensures) ∙ c .if2 .left, sym (c .before .before .before .field-is .ensures) ∙ c .before .before .if1 .taken)
+returns-3 c = rw (← c .before .before .field3 .ensures, ← c .before .before .before .field2 .ensures, ← c .before .before .before .before .field .ensures, sym (c .before .access-reads .ensures) ∙ c .if2 .left, sym (c .before .before .before .before .before .before .field-is .ensures) ∙ c .before .before .before .before .before .if1 .taken)
 
 returns-4 : tie.Need-returns-4
 unfolding writeLine
@@ -54,12 +62,15 @@ write-line-spec =
     (tie.spec
     slice-aggregate-field-is
     field-is-requires
+    field-requires
+    field-requires-2
+    field-requires-3
     access-reads-requires
-    field-is-hex-requires
-    field-hex-requires
-    field-hex-requires-2
-    cast-width
-    field-hex-requires-3
+    is-hex-requires
+    hex-value-requires
+    hex-value-requires-2
+    cast-t14
+    hex-value-requires-3
     returns
     returns-2
     returns-3
