@@ -69,7 +69,6 @@ fn count_line(line: &[u8]) -> Line
     Line::Unread
 }
 
-// Whether a port and a width read.
 fn access_reads(port: &[u8], width: &[u8]) -> bool
     ensures { λ r. ⌜ r ≡ accessReads (now (port .entry)) (now (width .entry)) ⌝ }
 {
