@@ -1,239 +1,107 @@
--- The machine with some fields changed: groups that change together. Everything else goes through these.
+-- The machine with some fields changed. Fields that change together are a group; `made` holds the only literal of a machine, and
+-- everything else goes through these.
 use mathlib.Core.Bool.{Bool, false}
 use mathlib.Core.List.{List}
 use Prim.Native.Nat.{ℕ}
+use Rattle.platform.specs.declared.settings.Settings.{Settings}
 use Rattle.machine.specs.declared.Machine.{Machine}
 
--- the PM1 event cells
-abbrev pub withEvent : Machine → ℕ → ℕ → Machine
-withEvent m pm1-sts pm1-en =
+-- ---- the groups
+
+-- PM1 status and enables
+abbrev pub pm1Cells : Machine → ℕ × ℕ
+pm1Cells m = (m .«pm1_sts», m .«pm1_en»)
+
+-- status and enables of GPE0, then of GPE1
+abbrev pub gpeCells : Machine → List ℕ × List ℕ × List ℕ × List ℕ
+gpeCells m = (m .«gpe0_sts», m .«gpe0_en», m .«gpe1_sts», m .«gpe1_en»)
+
+-- the counter, hold, and whether the power button is down
+abbrev pub timeAndButton : Machine → ℕ × ℕ × Bool
+timeAndButton m = (m .counter, m .hold, m .button)
+
+-- whether a command waits, and its byte
+abbrev pub commandLatch : Machine → Bool × ℕ
+commandLatch m = (m .«command_waits», m .command)
+
+-- SCI_EN, BM_RLD, the release flag, SLP_TYP of A and of B, ARB_DIS
+abbrev pub controlCells : Machine → Bool × Bool × Bool × ℕ × ℕ × Bool
+controlCells m = (m .«sci_en», m .«bm_rld», m .«gbl_rls», m .«slp_typ_a», m .«slp_typ_b», m .«arb_dis»)
+
+-- armed, and the sleep state
+abbrev pub mode : Machine → Bool × ℕ
+mode m = (m .armed, m .state)
+
+abbrev pub made : Settings → ℕ × ℕ → List ℕ × List ℕ × List ℕ × List ℕ → ℕ × ℕ × Bool → Bool × ℕ → Bool × Bool × Bool × ℕ × ℕ × Bool → Bool × ℕ → Machine
+made s (pm1-sts, pm1-en) (gpe0-sts, gpe0-en, gpe1-sts, gpe1-en) (counter, hold, button) (command-waits, command) (sci-en, bm-rld, gbl-rls, slp-typ-a, slp-typ-b, arb-dis) (armed, state) =
     record {
-      settings = m .settings;
+      settings = s;
       «pm1_sts» = pm1-sts;
       «pm1_en» = pm1-en;
-      «gpe0_sts» = m .«gpe0_sts»;
-      «gpe0_en» = m .«gpe0_en»;
-      «gpe1_sts» = m .«gpe1_sts»;
-      «gpe1_en» = m .«gpe1_en»;
-      counter = m .counter;
-      hold = m .hold;
-      button = m .button;
-      «command_waits» = m .«command_waits»;
-      command = m .command;
-      «gbl_rls» = m .«gbl_rls»;
-      armed = m .armed;
-      «slp_typ_a» = m .«slp_typ_a»;
-      «slp_typ_b» = m .«slp_typ_b»;
-      «sci_en» = m .«sci_en»;
-      «bm_rld» = m .«bm_rld»;
-      «arb_dis» = m .«arb_dis»;
-      state = m .state;
-    }
-
--- the general event cells
-abbrev pub withGpe : Machine → List ℕ → List ℕ → List ℕ → List ℕ → Machine
-withGpe m gpe0-sts gpe0-en gpe1-sts gpe1-en =
-    record {
-      settings = m .settings;
-      «pm1_sts» = m .«pm1_sts»;
-      «pm1_en» = m .«pm1_en»;
       «gpe0_sts» = gpe0-sts;
       «gpe0_en» = gpe0-en;
       «gpe1_sts» = gpe1-sts;
       «gpe1_en» = gpe1-en;
-      counter = m .counter;
-      hold = m .hold;
-      button = m .button;
-      «command_waits» = m .«command_waits»;
-      command = m .command;
-      «gbl_rls» = m .«gbl_rls»;
-      armed = m .armed;
-      «slp_typ_a» = m .«slp_typ_a»;
-      «slp_typ_b» = m .«slp_typ_b»;
-      «sci_en» = m .«sci_en»;
-      «bm_rld» = m .«bm_rld»;
-      «arb_dis» = m .«arb_dis»;
-      state = m .state;
-    }
-
--- the PM1 control cells, the release flag and arming
-abbrev pub withControl : Machine → Bool → Bool → ℕ → ℕ → Bool → Machine
-withControl m bm-rld gbl-rls slp-typ-a slp-typ-b armed =
-    record {
-      settings = m .settings;
-      «pm1_sts» = m .«pm1_sts»;
-      «pm1_en» = m .«pm1_en»;
-      «gpe0_sts» = m .«gpe0_sts»;
-      «gpe0_en» = m .«gpe0_en»;
-      «gpe1_sts» = m .«gpe1_sts»;
-      «gpe1_en» = m .«gpe1_en»;
-      counter = m .counter;
-      hold = m .hold;
-      button = m .button;
-      «command_waits» = m .«command_waits»;
-      command = m .command;
+      counter = counter;
+      hold = hold;
+      button = button;
+      «command_waits» = command-waits;
+      command = command;
       «gbl_rls» = gbl-rls;
       armed = armed;
       «slp_typ_a» = slp-typ-a;
       «slp_typ_b» = slp-typ-b;
-      «sci_en» = m .«sci_en»;
+      «sci_en» = sci-en;
       «bm_rld» = bm-rld;
-      «arb_dis» = m .«arb_dis»;
-      state = m .state;
+      «arb_dis» = arb-dis;
+      state = state;
     }
+
+-- ---- the setters
+
+abbrev pub withSettings : Machine → Settings → Machine
+withSettings m s = made s (pm1Cells m) (gpeCells m) (timeAndButton m) (commandLatch m) (controlCells m) (mode m)
+
+-- the PM1 event cells
+abbrev pub withEvent : Machine → ℕ → ℕ → Machine
+withEvent m pm1-sts pm1-en = made (m .settings) (pm1-sts, pm1-en) (gpeCells m) (timeAndButton m) (commandLatch m) (controlCells m) (mode m)
+
+-- the general event cells
+abbrev pub withGpe : Machine → List ℕ → List ℕ → List ℕ → List ℕ → Machine
+withGpe m gpe0-sts gpe0-en gpe1-sts gpe1-en =
+    made (m .settings) (pm1Cells m) (gpe0-sts, gpe0-en, gpe1-sts, gpe1-en) (timeAndButton m) (commandLatch m) (controlCells m) (mode m)
+
+-- the PM1 control cells that a guest writes, the release flag and arming
+abbrev pub withControl : Machine → Bool → Bool → ℕ → ℕ → Bool → Machine
+withControl m bm-rld gbl-rls slp-typ-a slp-typ-b armed =
+    made (m .settings) (pm1Cells m) (gpeCells m) (timeAndButton m) (commandLatch m)
+    (m .«sci_en», bm-rld, gbl-rls, slp-typ-a, slp-typ-b, m .«arb_dis») (armed, m .state)
 
 -- the command latch
 abbrev pub withCommand : Machine → Bool → ℕ → Machine
 withCommand m command-waits command =
-    record {
-      settings = m .settings;
-      «pm1_sts» = m .«pm1_sts»;
-      «pm1_en» = m .«pm1_en»;
-      «gpe0_sts» = m .«gpe0_sts»;
-      «gpe0_en» = m .«gpe0_en»;
-      «gpe1_sts» = m .«gpe1_sts»;
-      «gpe1_en» = m .«gpe1_en»;
-      counter = m .counter;
-      hold = m .hold;
-      button = m .button;
-      «command_waits» = command-waits;
-      command = command;
-      «gbl_rls» = m .«gbl_rls»;
-      armed = m .armed;
-      «slp_typ_a» = m .«slp_typ_a»;
-      «slp_typ_b» = m .«slp_typ_b»;
-      «sci_en» = m .«sci_en»;
-      «bm_rld» = m .«bm_rld»;
-      «arb_dis» = m .«arb_dis»;
-      state = m .state;
-    }
+    made (m .settings) (pm1Cells m) (gpeCells m) (timeAndButton m) (command-waits, command) (controlCells m) (mode m)
 
 -- the power button and its hold
 abbrev pub withButton : Machine → Bool → ℕ → Machine
-withButton m button hold =
-    record {
-      settings = m .settings;
-      «pm1_sts» = m .«pm1_sts»;
-      «pm1_en» = m .«pm1_en»;
-      «gpe0_sts» = m .«gpe0_sts»;
-      «gpe0_en» = m .«gpe0_en»;
-      «gpe1_sts» = m .«gpe1_sts»;
-      «gpe1_en» = m .«gpe1_en»;
-      counter = m .counter;
-      hold = hold;
-      button = button;
-      «command_waits» = m .«command_waits»;
-      command = m .command;
-      «gbl_rls» = m .«gbl_rls»;
-      armed = m .armed;
-      «slp_typ_a» = m .«slp_typ_a»;
-      «slp_typ_b» = m .«slp_typ_b»;
-      «sci_en» = m .«sci_en»;
-      «bm_rld» = m .«bm_rld»;
-      «arb_dis» = m .«arb_dis»;
-      state = m .state;
-    }
+withButton m button hold = made (m .settings) (pm1Cells m) (gpeCells m) (m .counter, hold, button) (commandLatch m) (controlCells m) (mode m)
 
 -- PM2
 abbrev pub withArbDis : Machine → Bool → Machine
 withArbDis m arb-dis =
-    record {
-      settings = m .settings;
-      «pm1_sts» = m .«pm1_sts»;
-      «pm1_en» = m .«pm1_en»;
-      «gpe0_sts» = m .«gpe0_sts»;
-      «gpe0_en» = m .«gpe0_en»;
-      «gpe1_sts» = m .«gpe1_sts»;
-      «gpe1_en» = m .«gpe1_en»;
-      counter = m .counter;
-      hold = m .hold;
-      button = m .button;
-      «command_waits» = m .«command_waits»;
-      command = m .command;
-      «gbl_rls» = m .«gbl_rls»;
-      armed = m .armed;
-      «slp_typ_a» = m .«slp_typ_a»;
-      «slp_typ_b» = m .«slp_typ_b»;
-      «sci_en» = m .«sci_en»;
-      «bm_rld» = m .«bm_rld»;
-      «arb_dis» = arb-dis;
-      state = m .state;
-    }
+    made (m .settings) (pm1Cells m) (gpeCells m) (timeAndButton m) (commandLatch m)
+    (m .«sci_en», m .«bm_rld», m .«gbl_rls», m .«slp_typ_a», m .«slp_typ_b», arb-dis) (mode m)
 
 -- SCI_EN
 abbrev pub withSciEn : Machine → Bool → Machine
 withSciEn m sci-en =
-    record {
-      settings = m .settings;
-      «pm1_sts» = m .«pm1_sts»;
-      «pm1_en» = m .«pm1_en»;
-      «gpe0_sts» = m .«gpe0_sts»;
-      «gpe0_en» = m .«gpe0_en»;
-      «gpe1_sts» = m .«gpe1_sts»;
-      «gpe1_en» = m .«gpe1_en»;
-      counter = m .counter;
-      hold = m .hold;
-      button = m .button;
-      «command_waits» = m .«command_waits»;
-      command = m .command;
-      «gbl_rls» = m .«gbl_rls»;
-      armed = m .armed;
-      «slp_typ_a» = m .«slp_typ_a»;
-      «slp_typ_b» = m .«slp_typ_b»;
-      «sci_en» = sci-en;
-      «bm_rld» = m .«bm_rld»;
-      «arb_dis» = m .«arb_dis»;
-      state = m .state;
-    }
+    made (m .settings) (pm1Cells m) (gpeCells m) (timeAndButton m) (commandLatch m)
+    (sci-en, m .«bm_rld», m .«gbl_rls», m .«slp_typ_a», m .«slp_typ_b», m .«arb_dis») (mode m)
 
 -- the counter and hold
 abbrev pub withTime : Machine → ℕ → ℕ → Machine
-withTime m counter hold =
-    record {
-      settings = m .settings;
-      «pm1_sts» = m .«pm1_sts»;
-      «pm1_en» = m .«pm1_en»;
-      «gpe0_sts» = m .«gpe0_sts»;
-      «gpe0_en» = m .«gpe0_en»;
-      «gpe1_sts» = m .«gpe1_sts»;
-      «gpe1_en» = m .«gpe1_en»;
-      counter = counter;
-      hold = hold;
-      button = m .button;
-      «command_waits» = m .«command_waits»;
-      command = m .command;
-      «gbl_rls» = m .«gbl_rls»;
-      armed = m .armed;
-      «slp_typ_a» = m .«slp_typ_a»;
-      «slp_typ_b» = m .«slp_typ_b»;
-      «sci_en» = m .«sci_en»;
-      «bm_rld» = m .«bm_rld»;
-      «arb_dis» = m .«arb_dis»;
-      state = m .state;
-    }
+withTime m counter hold = made (m .settings) (pm1Cells m) (gpeCells m) (counter, hold, m .button) (commandLatch m) (controlCells m) (mode m)
 
 -- another state: "Completing, wake and override all disarm"
 abbrev pub enter : Machine → ℕ → Machine
-enter m state =
-    record {
-      settings = m .settings;
-      «pm1_sts» = m .«pm1_sts»;
-      «pm1_en» = m .«pm1_en»;
-      «gpe0_sts» = m .«gpe0_sts»;
-      «gpe0_en» = m .«gpe0_en»;
-      «gpe1_sts» = m .«gpe1_sts»;
-      «gpe1_en» = m .«gpe1_en»;
-      counter = m .counter;
-      hold = m .hold;
-      button = m .button;
-      «command_waits» = m .«command_waits»;
-      command = m .command;
-      «gbl_rls» = m .«gbl_rls»;
-      armed = false;
-      «slp_typ_a» = m .«slp_typ_a»;
-      «slp_typ_b» = m .«slp_typ_b»;
-      «sci_en» = m .«sci_en»;
-      «bm_rld» = m .«bm_rld»;
-      «arb_dis» = m .«arb_dis»;
-      state = state;
-    }
+enter m state = made (m .settings) (pm1Cells m) (gpeCells m) (timeAndButton m) (commandLatch m) (controlCells m) (false, state)

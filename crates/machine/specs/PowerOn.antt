@@ -9,6 +9,7 @@ use Rattle.platform.specs.Blocks.{noBlock}
 use Rattle.platform.specs.Rules.{gpeLongest}
 use Rattle.platform.specs.declared.settings.Settings.{Settings}
 use Rattle.machine.specs.declared.Machine.{Machine}
+use Rattle.machine.specs.Fields.{made}
 
 -- "status bytes, then as many enable bytes": the most of each
 abbrev pub gpeBytes : ℕ
@@ -20,28 +21,7 @@ noBytes = replicate gpeBytes 0
 -- every cell, count and flag zero, with these settings, and SCI_EN as given
 abbrev pub zeroed : Settings → Bool → Machine
 zeroed s sci-en =
-    record {
-      settings = s;
-      «pm1_sts» = 0;
-      «pm1_en» = 0;
-      «gpe0_sts» = noBytes;
-      «gpe0_en» = noBytes;
-      «gpe1_sts» = noBytes;
-      «gpe1_en» = noBytes;
-      counter = 0;
-      hold = 0;
-      button = false;
-      «command_waits» = false;
-      command = 0;
-      «gbl_rls» = false;
-      armed = false;
-      «slp_typ_a» = 0;
-      «slp_typ_b» = 0;
-      «sci_en» = sci-en;
-      «bm_rld» = false;
-      «arb_dis» = false;
-      state = 0;
-    }
+    made s (0, 0) (noBytes, noBytes, noBytes, noBytes) (0, 0, false) (false, 0) (sci-en, false, false, 0, 0, false) (false, 0)
 
 abbrev pub powerOn : Settings → Machine
 powerOn s = zeroed s (eqb (s .«smi_cmd») 0)
