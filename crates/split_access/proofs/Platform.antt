@@ -78,34 +78,9 @@ platform homes =
       sleep = sleepTable pairs;
     }
 
-abbrev zeros : List ℕ
-zeros = 0 ∷ 0 ∷ 0 ∷ 0 ∷ 0 ∷ 0 ∷ 0 ∷ 0 ∷ []
-
 -- the machine at power-on; SMI_CMD is there, so SCI_EN is clear
 abbrev pub machine : ℕ → Machine
-machine homes =
-    record {
-      settings = platform homes;
-      «pm1_sts» = 0;
-      «pm1_en» = 0;
-      «gpe0_sts» = zeros;
-      «gpe0_en» = zeros;
-      «gpe1_sts» = zeros;
-      «gpe1_en» = zeros;
-      counter = 0;
-      hold = 0;
-      button = false;
-      «command_waits» = false;
-      command = 0;
-      «gbl_rls» = false;
-      armed = false;
-      «slp_typ_a» = 0;
-      «slp_typ_b» = 0;
-      «sci_en» = false;
-      «bm_rld» = false;
-      «arb_dis» = false;
-      state = 0;
-    }
+machine homes = powerOn (platform homes)
 
 settings-read : (homes : ℕ) → settingsOf table homes 0 false pairs ≡ platform homes
 unfolding dword
