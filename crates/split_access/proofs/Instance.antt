@@ -2,7 +2,7 @@
 -- The premises are computed. Assumes nothing.
 use mathlib.Core.List.{List, [], _∷_, map}
 use mathlib.Core.Bool.{false}
-use mathlib.Core.Path.{_≡_, refl, subst}
+use mathlib.Core.Path.{_≡_, refl}
 use Prim.Native.Nat.{ℕ}
 use native.Mathlib.Omega.{arith}
 use lib.ListN.{set}
@@ -18,10 +18,11 @@ use Rattle.model.specs.declared.Event.{Event}
 use Rattle.model.specs.declared.Event.the-variants as event
 use Rattle.model.specs.declared.Step.{Step}
 use Rattle.model.specs.declared.Step.the-variants as step
+use Rattle.split_access.specs.Start.{InS0}
 use Rattle.split_access.specs.Gap.{before}
-use Rattle.split_access.specs.Claims.{reads, writes, gap-step, Gap, ItemOn, step-item, control-item, event-item, InS0, MovesFrom}
+use Rattle.split_access.specs.Claims.{reads, writes, gap-step, Gap, ItemOn, step-item, control-item, event-item, MovesFrom}
 use Rattle.split_access.proofs.Moves.{demand-3}
-use Rattle.split_access.proofs.Platform.{table, pairs, platform, machine, gives, alarmInB, alarm-homes, alarm-accepted, steps-compute}
+use Rattle.split_access.proofs.Platform.{table, pairs, platform, machine, gives, here, alarmInB, alarm-homes, steps-compute}
 
 -- steps with their answers
 abbrev readOf : ℕ → Answer → Step × Answer
@@ -130,7 +131,7 @@ moved-order = refl
 
 pub moved-list-runs : Run answerTo after (setUpOf table alarmInB 0 false pairs .machine) movedItems end
 moved-list-runs =
-    let moves = subst (MovesFrom stepOf) (gives alarmInB alarm-homes) (demand-3 table alarmInB 0 false pairs alarm-accepted) in
+    let moves = here alarmInB (MovesFrom stepOf) alarm-homes demand-3 in
     let run = moves items end items-on items-awake items-run in
     rw (gives alarmInB alarm-homes) (rw moved-order at run)
 

@@ -1,3 +1,4 @@
+pub mod Start
 pub mod Gap
 pub mod Claims
 pub mod WriteBack
