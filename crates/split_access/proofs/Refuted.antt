@@ -1,10 +1,10 @@
--- What fails: the two faulty steps, the write-back without its exemption, and demand 3 with mixed gaps or with the other side moved; each by a list of
+-- What fails: the three faulty steps, the write-back without its exemption, and demand 3 with mixed gaps or with the other side moved; each by a list of
 -- a few steps on the worked platform.
 -- Every premise is computed, and the conclusion says that two different values are equal. Assumes nothing.
-use mathlib.Core.Bool.{true, false}
+use mathlib.Core.Bool.{true, false, false≢true}
 use mathlib.Core.List.{List, [], _∷_}
 use mathlib.Core.Logic.{inl, inr}
-use mathlib.Core.Path.{_≡_, refl, ap}
+use mathlib.Core.Path.{_≡_, refl, sym, ap}
 use Prim.Native.Nat.{ℕ}
 use native.Mathlib.Omega.{arith}
 use Rattle.runs.specs.Items.{Item, event, stepsOf, Every}
@@ -21,12 +21,16 @@ use Rattle.model.specs.declared.Step.the-variants as step
 use Rattle.split_access.specs.Gap.{before}
 use Rattle.split_access.specs.Claims.{reads, GapStep, gap-step, Gap, ItemOn, event-item, MovesBy, Demand3By, Demand3}
 use Rattle.split_access.specs.WriteBack.{Round, RoundOn, WritesBackBy, WritesBackFrom, WriteBackBy, WriteBack}
-use Rattle.split_access.specs.Faulty.{clearsAll, oneRegister, MixedItemOn, otherSide, EveryBit}
+use Rattle.split_access.specs.WakesAtOnce.{WakesAtOnceFrom, WakesAtOnce}
+use Rattle.split_access.specs.Faulty.{clearsAll, oneRegister, ignoresPending, MixedItemOn, otherSide, EveryBit}
 use Rattle.split_access.proofs.Platform.{platform, machine, here, here-after, alarmInB, pressInB, alarm-homes, press-homes, steps-compute}
 
 -- accesses of two bytes
 abbrev read : ℕ → Step
 read port = step.Read (record { port = port; width = 2 })
+
+abbrev write : ℕ → ℕ → Step
+write port written = step.Write (record { port = port; width = 2 }) written
 
 -- ---- version 1
 
@@ -63,6 +67,18 @@ one-register-refuted w =
     let lost = here-after pressInB oneRegister (WritesBackFrom oneRegister) press-homes w [] alarmBetweenReads (alarm-between-on pressInB) (refl, (refl, (refl, (refl, (refl, refl))))) in
     let z : _≡_ {A = ℕ} 0 1 = lost .pm1 10 (omega arith) (inl refl) refl in
     omega arith
+
+-- ---- version 3
+
+-- RTC_EN at B, its home; the alarm; SLP_TYP and SLP_EN at A
+abbrev alarmThenA : List Step
+alarmThenA = write 0x442 0x400 ∷ step.Event event.Alarm ∷ write 0x404 0x3400 ∷ []
+
+-- "An alarm already pending and enabled when the lid closed did not wake the machine.": SLP_EN at B completes, and leaves the machine in S3
+pub pending-ignored-refuted : WakesAtOnce setUpOf ignoresPending → ⊥
+unfolding steps-compute
+pending-ignored-refuted w =
+    false≢true (sym (here-after alarmInB ignoresPending (WakesAtOnceFrom ignoresPending) alarm-homes w alarmThenA (write 0x444 0x2800) refl refl))
 
 -- ---- the write-back without its exemption
 

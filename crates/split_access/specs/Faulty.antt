@@ -1,4 +1,4 @@
--- Two steps that were paid for and failed, demand 3 changed in two ways, and the write-back without its exemption.
+-- Three steps that were paid for and failed, demand 3 changed in two ways, and the write-back without its exemption.
 -- That each is wrong is shown in `proofs/Refuted.antt`.
 use mathlib.Core.Bool.{Bool, true, false, not, cond, _&&_}
 use Prim.Native.Nat.{ℕ}
@@ -8,8 +8,9 @@ use Rattle.runs.specs.Items.{Item, Every}
 use Rattle.platform.specs.Cells.{statusCells}
 use Rattle.platform.specs.declared.settings.Settings.{Settings}
 use Rattle.machine.specs.Cells.{shown, placed, covered, inStatus}
-use Rattle.machine.specs.Fields.{withEvent}
+use Rattle.machine.specs.Fields.{withEvent, enter}
 use Rattle.machine.specs.declared.Machine.{Machine}
+use Rattle.model.specs.Bus.{completes, namedState, controlled, writeOf}
 use Rattle.model.specs.Step.{registerOf, offsetOf, answerTo, accepted, after, stepOf}
 use Rattle.model.specs.declared.Access.{Access}
 use Rattle.model.specs.declared.Answer.the-variants as answer
@@ -72,6 +73,22 @@ asOne m step.Drop = stepOf m step.Drop
 
 abbrev pub oneRegister : Stepping
 oneRegister m x = cond (accepted (answerTo m x)) (asOne m x) (stepOf m x)
+
+-- 3: "An alarm already pending and enabled when the lid closed did not wake the machine.": a write that completes enters the state, whatever is set
+abbrev pub sentToSleep : Machine → Register → ℕ → ℕ → ℕ → Machine
+sentToSleep m register.SmiCmd width offset written = writeOf m register.SmiCmd width offset written
+sentToSleep m (register.Pm1Evt b) width offset written = writeOf m (register.Pm1Evt b) width offset written
+sentToSleep m (register.Pm1Cnt b) width offset written =
+    cond (completes m b width offset written)
+    (enter (controlled m b width offset written) (namedState m b width offset written))
+    (controlled m b width offset written)
+sentToSleep m register.Pm2Cnt width offset written = writeOf m register.Pm2Cnt width offset written
+sentToSleep m register.PmTmr width offset written = writeOf m register.PmTmr width offset written
+sentToSleep m (register.Gpe b) width offset written = writeOf m (register.Gpe b) width offset written
+sentToSleep m register.Nowhere width offset written = writeOf m register.Nowhere width offset written
+
+abbrev pub ignoresPending : Stepping
+ignoresPending = writingBy (λ m a written. sentToSleep m (registerOf m a) (a .width) (offsetOf m a) written)
 
 -- ---- the claims
 

@@ -2,4 +2,5 @@ pub mod Start
 pub mod Gap
 pub mod Claims
 pub mod WriteBack
+pub mod WakesAtOnce
 pub mod Faulty
