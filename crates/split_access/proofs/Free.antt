@@ -63,7 +63,7 @@ control-half-passes m e x (control-write a written r h) = control-write-passes m
 on-after : (m : Machine) (e : Event) (x : Step) → Passes m e x → after m x .state ≡ 0 → after (after m x) (step.Event e) .state ≡ 0 → On m e
 on-after m e x p z w = on-back m (p .n) e (p .same) (event-on (p .n) e (rw (p .half) at z) (rw (p .half) at w))
 
--- .. and the new middle is as awake as the machine was
+-- an event that is no override leaves the machine awake: the new middle
 event-ok : (s : Settings) (m : Machine) (e : Event) → Ok s m → On m e → Ok s (after m (step.Event e))
 event-ok s m e ok on =
     let now = event-affects m e (ok .state) on .1 in

@@ -2,10 +2,13 @@
 -- The premises are computed. Assumes nothing.
 use mathlib.Core.List.{List, [], _∷_, map}
 use mathlib.Core.Bool.{false}
-use mathlib.Core.Path.{_≡_, refl, subst}
+use mathlib.Core.Path.{_≡_, refl}
 use Prim.Native.Nat.{ℕ}
 use native.Mathlib.Omega.{arith}
+use lib.ListN.{set}
 use Rattle.runs.specs.Items.{Item, one, control, event, original, moved, stepIn, stepsOf, Every, Run, Awake}
+use Rattle.machine.specs.Fields.{withEvent, withGpe, withControl, withTime, enter}
+use Rattle.machine.specs.PowerOn.{noBytes}
 use Rattle.machine.specs.SetUp.{setUpOf}
 use Rattle.machine.specs.declared.Machine.{Machine}
 use Rattle.model.specs.Step.{answerTo, after, stepOf}
@@ -15,10 +18,11 @@ use Rattle.model.specs.declared.Event.{Event}
 use Rattle.model.specs.declared.Event.the-variants as event
 use Rattle.model.specs.declared.Step.{Step}
 use Rattle.model.specs.declared.Step.the-variants as step
+use Rattle.split_access.specs.Start.{InS0}
 use Rattle.split_access.specs.Gap.{before}
-use Rattle.split_access.specs.Claims.{reads, writes, gap-step, Gap, ItemOn, step-item, control-item, event-item, InS0, MovesFrom}
+use Rattle.split_access.specs.Claims.{reads, writes, gap-step, Gap, ItemOn, step-item, control-item, event-item, MovesFrom}
 use Rattle.split_access.proofs.Moves.{demand-3}
-use Rattle.split_access.proofs.Platform.{table, pairs, platform, machine, gives, alarmInB, alarm-homes, alarm-accepted, steps-compute}
+use Rattle.split_access.proofs.Platform.{table, pairs, platform, machine, gives, here, alarmInB, alarm-homes, steps-compute}
 
 -- steps with their answers
 abbrev readOf : ℕ → Answer → Step × Answer
@@ -72,31 +76,13 @@ movedItems =
     ∷ readOf 0x400 answer.Asleep
     ∷ []
 
--- asleep in S3, with the press and two general events kept
+-- asleep in S3, with the press kept, and two general events: bit 3 of the first byte and bit 1 of the second
 abbrev end : Machine
 end =
-    record {
-      settings = platform alarmInB;
-      «pm1_sts» = 0x100;
-      «pm1_en» = 0;
-      «gpe0_sts» = 0x08 ∷ 0x02 ∷ 0 ∷ 0 ∷ 0 ∷ 0 ∷ 0 ∷ 0 ∷ [];
-      «gpe0_en» = 0 ∷ 0 ∷ 0 ∷ 0 ∷ 0 ∷ 0 ∷ 0 ∷ 0 ∷ [];
-      «gpe1_sts» = 0 ∷ 0 ∷ 0 ∷ 0 ∷ 0 ∷ 0 ∷ 0 ∷ 0 ∷ [];
-      «gpe1_en» = 0 ∷ 0 ∷ 0 ∷ 0 ∷ 0 ∷ 0 ∷ 0 ∷ 0 ∷ [];
-      counter = 2;
-      hold = 2;
-      button = false;
-      «command_waits» = false;
-      command = 0;
-      «gbl_rls» = false;
-      armed = false;
-      «slp_typ_a» = 5;
-      «slp_typ_b» = 2;
-      «sci_en» = false;
-      «bm_rld» = false;
-      «arb_dis» = false;
-      state = 3;
-    }
+    let pressed = withEvent (machine alarmInB) 0x100 0 in
+    let general = withGpe pressed (set (set noBytes 0 0x08) 1 0x02) noBytes noBytes noBytes in
+    let ticked = withTime general 2 2 in
+    enter (withControl ticked false false 5 2 false) 3
 
 -- ---- the premises
 
@@ -145,7 +131,7 @@ moved-order = refl
 
 pub moved-list-runs : Run answerTo after (setUpOf table alarmInB 0 false pairs .machine) movedItems end
 moved-list-runs =
-    let moves = subst (MovesFrom stepOf) (gives alarmInB alarm-homes) (demand-3 table alarmInB 0 false pairs alarm-accepted) in
+    let moves = here alarmInB (MovesFrom stepOf) alarm-homes demand-3 in
     let run = moves items end items-on items-awake items-run in
     rw (gives alarmInB alarm-homes) (rw moved-order at run)
 

@@ -18,8 +18,9 @@ use Rattle.model.specs.Step.{answerTo, after, stepOf}
 use Rattle.model.proofs.Steps.{settings-kept}
 use Rattle.model.specs.declared.Step.{Step}
 use Rattle.model.specs.declared.Step.the-variants as step
+use Rattle.split_access.specs.Start.{InS0}
 use Rattle.split_access.specs.Gap.{before}
-use Rattle.split_access.specs.Claims.{accessAt, Halves, reads, writes, GapStep, gap-step, buttonStep, tickingStep, mixed, ItemOn, step-item, control-item, event-item, InS0, MovesFrom, Demand3}
+use Rattle.split_access.specs.Claims.{accessAt, Halves, reads, writes, GapStep, gap-step, buttonStep, tickingStep, mixed, ItemOn, step-item, control-item, event-item, MovesFrom, Demand3}
 use Rattle.split_access.proofs.Free.{Ok, EventHalf, event-read, event-write, ControlHalf, control-read, control-write, Free, past-control, past-half-a, past-event, FreeLast, past-half-b, swap, swap-last}
 use Rattle.split_access.proofs.Leads.{event-a, event-b, control-a}
 use Rattle.split_access.proofs.Sides.{true-false, sides-apart}

@@ -2,7 +2,7 @@
 -- The bytes read give the settings below, and none of the twelve lines refuses them. Assumes nothing.
 use mathlib.Core.Bool.{false}
 use mathlib.Core.List.{List, [], _∷_}
-use mathlib.Core.Path.{_≡_, refl, _∙_, ap}
+use mathlib.Core.Path.{_≡_, refl, _∙_, ap, subst}
 use Prim.Native.Nat.{ℕ}
 use Rattle.lists.specs.Any.{any, anyTwo, firstAt}
 use Rattle.bits.specs.Digit.{digit}
@@ -32,6 +32,8 @@ use Rattle.model.specs.Events.{inS5, pressOf, signalOf, pcieWakeOf, inGpe0, inG
 use Rattle.model.specs.Ports.{registerAt, offsetAt}
 use Rattle.model.specs.Raises.{signalChange, pressChange, eventChange, ruleChange, raises}
 use Rattle.model.specs.Step.{answerTo, after}
+use Rattle.model.specs.declared.Step.{Step}
+use Rattle.split_access.specs.Start.{Stepping, nextBy, FromSetUp, AfterSteps}
 use Rattle.split_access.specs.Gap.{livesInB}
 use Rattle.split_access.specs.WriteBack.{RaisedIn}
 
@@ -78,34 +80,9 @@ platform homes =
       sleep = sleepTable pairs;
     }
 
-abbrev zeros : List ℕ
-zeros = 0 ∷ 0 ∷ 0 ∷ 0 ∷ 0 ∷ 0 ∷ 0 ∷ 0 ∷ []
-
 -- the machine at power-on; SMI_CMD is there, so SCI_EN is clear
 abbrev pub machine : ℕ → Machine
-machine homes =
-    record {
-      settings = platform homes;
-      «pm1_sts» = 0;
-      «pm1_en» = 0;
-      «gpe0_sts» = zeros;
-      «gpe0_en» = zeros;
-      «gpe1_sts» = zeros;
-      «gpe1_en» = zeros;
-      counter = 0;
-      hold = 0;
-      button = false;
-      «command_waits» = false;
-      command = 0;
-      «gbl_rls» = false;
-      armed = false;
-      «slp_typ_a» = 0;
-      «slp_typ_b» = 0;
-      «sci_en» = false;
-      «bm_rld» = false;
-      «arb_dis» = false;
-      state = 0;
-    }
+machine homes = powerOn (platform homes)
 
 settings-read : (homes : ℕ) → settingsOf table homes 0 false pairs ≡ platform homes
 unfolding dword
@@ -170,6 +147,14 @@ module _ (homes : ℕ) where
   pub gives : homesRefused (platform homes) ≡ false → setUpOf table homes 0 false pairs .machine ≡ machine homes
   gives e = accepted-machine table (settingsOf table homes 0 false pairs) (accepted e) ∙ ap powerOn (settings-read homes)
 
+  -- what is claimed of every machine as setting up gives it is claimed of this one, and so is what is claimed after any steps
+  pub here : (P : Machine → Type 0) → homesRefused (platform homes) ≡ false → FromSetUp setUpOf P → P (machine homes)
+  here P e claim = subst P (gives e) (claim table homes 0 false pairs (accepted e))
+
+  pub here-after : (stepped : Stepping) (P : Machine → Type 0) → homesRefused (platform homes) ≡ false → AfterSteps setUpOf stepped P
+      → (steps : List Step) → P (afterAll (nextBy stepped) (machine homes) steps)
+  here-after stepped P e claim = here (λ m. (steps : List Step) → P (afterAll (nextBy stepped) m steps)) e claim
+
 -- ---- the two platforms
 
 -- the session's: the alarm lives in B, every other bit in A
@@ -187,12 +172,6 @@ alarm-homes = refl
 pub press-homes : homesRefused (platform pressInB) ≡ false
 unfolding homesRefused homeless within present
 press-homes = refl
-
-pub alarm-accepted : setUpOf table alarmInB 0 false pairs .answer ≡ set-up.Done
-alarm-accepted = accepted alarmInB alarm-homes
-
-pub press-accepted : setUpOf table pressInB 0 false pairs .answer ≡ set-up.Done
-press-accepted = accepted pressInB press-homes
 
 -- ---- computing
 

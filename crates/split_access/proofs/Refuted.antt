@@ -1,18 +1,16 @@
--- What fails: the two faulty steps, and demand 3 with mixed gaps or with the other side moved; each by a list of a few steps on the worked platform.
--- Every premise is computed, and the conclusion says that two different numbers are equal. Assumes nothing.
-use mathlib.Core.Bool.{Bool, true, false}
+-- What fails: the three faulty steps, the write-back without its exemption, and demand 3 with mixed gaps or with the other side moved; each by a list of
+-- a few steps on the worked platform.
+-- Every premise is computed, and the conclusion says that two different values are equal. Assumes nothing.
+use mathlib.Core.Bool.{true, false, false≢true}
 use mathlib.Core.List.{List, [], _∷_}
 use mathlib.Core.Logic.{inl, inr}
-use mathlib.Core.Path.{_≡_, refl, ap, subst}
+use mathlib.Core.Path.{_≡_, refl, sym, ap}
 use Prim.Native.Nat.{ℕ}
 use native.Mathlib.Omega.{arith}
-use Rattle.runs.specs.Items.{Item, event, stepsOf, Every, after as afterAll}
+use Rattle.runs.specs.Items.{Item, event, stepsOf, Every}
 use Rattle.platform.specs.Blocks.{present}
-use Rattle.platform.specs.Rules.{homesRefused}
-use Rattle.platform.specs.declared.settings.Settings.{Settings}
 use Rattle.machine.specs.Fields.{withEvent, withButton, withTime}
 use Rattle.machine.specs.SetUp.{setUpOf}
-use Rattle.machine.specs.declared.Machine.{Machine}
 use Rattle.model.specs.Answer.{valueOf}
 use Rattle.model.specs.Step.{stepOf}
 use Rattle.model.specs.declared.Answer.{Answer}
@@ -20,27 +18,19 @@ use Rattle.model.specs.declared.Answer.the-variants as answer
 use Rattle.model.specs.declared.Event.the-variants as event
 use Rattle.model.specs.declared.Step.{Step}
 use Rattle.model.specs.declared.Step.the-variants as step
-use Rattle.model.specs.declared.Stepped.{Stepped}
 use Rattle.split_access.specs.Gap.{before}
 use Rattle.split_access.specs.Claims.{reads, GapStep, gap-step, Gap, ItemOn, event-item, MovesBy, Demand3By, Demand3}
-use Rattle.split_access.specs.WriteBack.{Round, RoundOn, nextBy, WritesBackFrom, WriteBack}
-use Rattle.split_access.specs.Faulty.{clearsAll, oneRegister, MixedItemOn, otherSide}
-use Rattle.split_access.proofs.Platform.{table, pairs, platform, machine, accepted, gives, alarmInB, pressInB, alarm-homes, press-homes, steps-compute}
+use Rattle.split_access.specs.WriteBack.{Round, RoundOn, WritesBackBy, WritesBackFrom, WriteBackBy, WriteBack}
+use Rattle.split_access.specs.WakesAtOnce.{WakesAtOnceFrom, WakesAtOnce}
+use Rattle.split_access.specs.Faulty.{clearsAll, oneRegister, ignoresPending, MixedItemOn, otherSide, EveryBit}
+use Rattle.split_access.proofs.Platform.{platform, machine, here, here-after, alarmInB, pressInB, alarm-homes, press-homes, steps-compute}
 
--- the write-back from the platform's machine
-writes-back-here : (stepped : Machine → Step → Stepped) (homes : ℕ) → homesRefused (platform homes) ≡ false
-    → WriteBack setUpOf stepped
-    → (steps : List Step) → WritesBackFrom stepped (afterAll (nextBy stepped) (machine homes) steps)
-writes-back-here stepped homes e w =
-    subst (λ m. (steps : List Step) → WritesBackFrom stepped (afterAll (nextBy stepped) m steps)) (gives homes e)
-    (w table homes 0 false pairs (accepted homes e))
+-- accesses of two bytes
+abbrev read : ℕ → Step
+read port = step.Read (record { port = port; width = 2 })
 
--- demand 3, with other items or another test, from the platform's machine
-moves-here : (On : Settings → Item Step → Type 0) (first : Settings → Step → Bool) (stepped : Machine → Step → Stepped) (homes : ℕ)
-    → homesRefused (platform homes) ≡ false
-    → Demand3By On first setUpOf stepped
-    → MovesBy On first stepped (machine homes)
-moves-here On first stepped homes e d = subst (MovesBy On first stepped) (gives homes e) (d table homes 0 false pairs (accepted homes e))
+abbrev write : ℕ → ℕ → Step
+write port written = step.Write (record { port = port; width = 2 }) written
 
 -- ---- version 1
 
@@ -56,7 +46,7 @@ alarm-after-on = record { in-status = omega arith; b-present = refl; steps₁ = 
 pub whole-clear-refuted : WriteBack setUpOf clearsAll → ⊥
 unfolding steps-compute
 whole-clear-refuted w =
-    let lost = writes-back-here clearsAll alarmInB alarm-homes w (step.Event event.Press ∷ []) alarmAfterReads alarm-after-on (refl, (refl, (refl, (refl, (refl, refl))))) in
+    let lost = here-after alarmInB clearsAll (WritesBackFrom clearsAll) alarm-homes w (step.Event event.Press ∷ []) alarmAfterReads alarm-after-on (refl, (refl, (refl, (refl, (refl, refl))))) in
     let z : _≡_ {A = ℕ} 0 1 = lost .pm1 10 (omega arith) (inr (inl refl)) refl in
     omega arith
 
@@ -66,25 +56,47 @@ whole-clear-refuted w =
 abbrev alarmBetweenReads : Round
 alarmBetweenReads = record { offset = 0; width = 2; gap₁ = step.Event event.Alarm ∷ []; gap₂ = []; gap₃ = []; gap₄ = [] }
 
-alarm-between-on : RoundOn (platform pressInB) alarmBetweenReads
+alarm-between-on : (homes : ℕ) → RoundOn (platform homes) alarmBetweenReads
 unfolding present Every
-alarm-between-on = record { in-status = omega arith; b-present = refl; steps₁ = (gap-step event.Alarm, tt); steps₂ = tt; steps₃ = tt; steps₄ = tt }
+alarm-between-on homes = record { in-status = omega arith; b-present = refl; steps₁ = (gap-step event.Alarm, tt); steps₂ = tt; steps₃ = tt; steps₄ = tt }
 
 -- "an alarm between the two accesses was in neither the value read nor the register afterwards": A, its home, reads 0; B shows 0400 and its write clears it
 pub one-register-refuted : WriteBack setUpOf oneRegister → ⊥
 unfolding steps-compute
 one-register-refuted w =
-    let lost = writes-back-here oneRegister pressInB press-homes w [] alarmBetweenReads alarm-between-on (refl, (refl, (refl, (refl, (refl, refl))))) in
+    let lost = here-after pressInB oneRegister (WritesBackFrom oneRegister) press-homes w [] alarmBetweenReads (alarm-between-on pressInB) (refl, (refl, (refl, (refl, (refl, refl))))) in
     let z : _≡_ {A = ℕ} 0 1 = lost .pm1 10 (omega arith) (inl refl) refl in
+    omega arith
+
+-- ---- version 3
+
+-- RTC_EN at B, its home; the alarm; SLP_TYP and SLP_EN at A
+abbrev alarmThenA : List Step
+alarmThenA = write 0x442 0x400 ∷ step.Event event.Alarm ∷ write 0x404 0x3400 ∷ []
+
+-- "An alarm already pending and enabled when the lid closed did not wake the machine.": SLP_EN at B completes, and leaves the machine in S3
+pub pending-ignored-refuted : WakesAtOnce setUpOf ignoresPending → ⊥
+unfolding steps-compute
+pending-ignored-refuted w =
+    false≢true (sym (here-after alarmInB ignoresPending (WakesAtOnceFrom ignoresPending) alarm-homes w alarmThenA (write 0x444 0x2800) refl refl))
+
+-- ---- the write-back without its exemption
+
+-- B shows the alarm that came between the reads, and the write back clears it: bit 10 was raised after the first half read, and is gone
+pub exemption-refuted : WriteBackBy EveryBit setUpOf stepOf → ⊥
+unfolding steps-compute
+exemption-refuted w =
+    let lost = here-after alarmInB stepOf (WritesBackBy EveryBit stepOf) alarm-homes w [] alarmBetweenReads (alarm-between-on alarmInB) (refl, (refl, (refl, (refl, (refl, refl))))) in
+    let z : _≡_ {A = ℕ} 0 1 = lost .pm1 10 (omega arith) (inl refl) tt in
     omega arith
 
 -- ---- demand 3 changed
 
 abbrev statusA : Step
-statusA = step.Read (record { port = 0x400; width = 2 })
+statusA = read 0x400
 
 abbrev statusB : Step
-statusB = step.Read (record { port = 0x440; width = 2 })
+statusB = read 0x440
 
 -- a split read of the status with an alarm in its gap, which the second half shows
 abbrev alarmInGap : List (Item (Step × Answer))
@@ -102,7 +114,7 @@ alarm-in-gap-on homes = (event-item refl (reads 0 2 (omega arith)) alarm-gap, tt
 pub one-register-moves-refuted : Demand3 setUpOf oneRegister → ⊥
 unfolding steps-compute
 one-register-moves-refuted d =
-    let moves = moves-here ItemOn before oneRegister pressInB press-homes d in
+    let moves = here pressInB (MovesBy ItemOn before oneRegister) press-homes d in
     let r = moves alarmInGap (withEvent (machine pressInB) 0x400 0) (alarm-in-gap-on pressInB) ((refl, (refl, refl)), tt) (refl, (refl, (refl, refl))) in
     let z : _≡_ {A = ℕ} 0 0x400 = ap valueOf (r .1 .0) in
     omega arith
@@ -126,7 +138,7 @@ mixed-gap-on = (event-item refl (reads 0 2 (omega arith)) mixed-steps, tt)
 pub mixed-gap-refuted : Demand3By MixedItemOn before setUpOf stepOf → ⊥
 unfolding steps-compute
 mixed-gap-refuted d =
-    let moves = moves-here MixedItemOn before stepOf pressInB press-homes d in
+    let moves = here pressInB (MovesBy MixedItemOn before stepOf) press-homes d in
     let end = withTime (withButton (withEvent (machine pressInB) 0x100 0) true 0) 1 0 in
     let r = moves mixedGap end mixed-gap-on ((refl, (refl, (refl, refl))), tt) (refl, (refl, (refl, (refl, refl)))) in
     let z : _≡_ {A = ℕ} 1 0 = ap (λ m. m .hold) (r .1 .1 .1 .1) in
@@ -136,7 +148,7 @@ mixed-gap-refuted d =
 pub other-side-refuted : Demand3By ItemOn otherSide setUpOf stepOf → ⊥
 unfolding steps-compute
 other-side-refuted d =
-    let moves = moves-here ItemOn otherSide stepOf alarmInB alarm-homes d in
+    let moves = here alarmInB (MovesBy ItemOn otherSide stepOf) alarm-homes d in
     let r = moves alarmInGap (withEvent (machine alarmInB) 0x400 0) (alarm-in-gap-on alarmInB) ((refl, (refl, refl)), tt) (refl, (refl, (refl, refl))) in
     let z : _≡_ {A = ℕ} 0 0x400 = ap valueOf (r .1 .0) in
     omega arith

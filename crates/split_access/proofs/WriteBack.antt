@@ -37,13 +37,14 @@ use Rattle.model.specs.declared.Step.the-variants as step
 use Rattle.model.proofs.Raises.{status-law, clears-lt, status-stays-below, gpe-status-law-everywhere, gpe-status-stays-below, gpe-clears-lt, gpeBlock, no-byte}
 use Rattle.model.proofs.Sized.{Sized, sized-at, sized-kept}
 use Rattle.model.proofs.Steps.{settings-kept}
-use Rattle.split_access.specs.Claims.{accessAt, GapStep, gap-step, InS0}
+use Rattle.split_access.specs.Start.{InS0}
 use Rattle.split_access.specs.Gap.{livesInB}
+use Rattle.split_access.specs.Claims.{accessAt, GapStep, gap-step}
 use Rattle.split_access.proofs.Effects.{On, event-on}
 use Rattle.split_access.proofs.Homes.{home-digit}
 use Rattle.split_access.proofs.Leads.{event-a, event-b, offset-a, offset-b}
 use Rattle.split_access.proofs.Moves.{all-kept}
-use Rattle.split_access.specs.WriteBack.{RaisedIn, Round, RoundOn, readA, valueA, valueB, restOf, NothingLost, WritesBackFrom, WriteBack}
+use Rattle.split_access.specs.WriteBack.{RaisedIn, Round, RoundOn, readA, valueA, valueB, restOf, Unshown, NothingLost, WritesBackFrom, WriteBack}
 
 -- ---- machines with their widths
 
@@ -162,7 +163,7 @@ event-change-none m event.Unlock z on = refl
 event-change-none m (event.General k) z on = refl
 event-change-none m (event.Ticks n) z on = rw (on, and-false (awake m)) refl
 
--- .. and no general one
+-- a gap step of a machine that is awake clears no general bit
 gpe-change-none : (m : Machine) (e : Event) (b : Bool) (i : ℕ) → m .state ≡ 0 → gpeEventChange m e b i .cleared ≡ 0
 unfolding gpeEventChange
 gpe-change-none m event.Press b i z = rw (not-in-s5 m z) refl
@@ -196,7 +197,7 @@ gpe-write-clears-none : (m : Machine) (a : Access) (written : ℕ) (c b : Bool) 
 unfolding gpeClears gpeRuleChange gpeOnes
 gpe-write-clears-none m a written c b i r = none-cleared (accepted (answerTo m (step.Write a written))) _ (rw r refl)
 
--- .. and of the PM1 bits none that is not both written and the block's
+-- a write to an event register clears no PM1 bit that is not both written and the block's
 write-clears-none : (m : Machine) (a : Access) (written : ℕ) (c : Bool) (i : ℕ) → registerOf m a ≡ register.Pm1Evt c
     → (digit i (placed (offsetOf m a) written) ≡ 0) ⊎ (digit i (statusIn (m .settings) c) ≡ 0) → digit i (clears m (step.Write a written)) ≡ 0
 unfolding clears ruleChange writeChange
@@ -288,7 +289,7 @@ module _ (m : Machine) (w : Wide m) (r : Round) (on : RoundOn (m .settings) r) w
   first : Machine
   first = after m (readA (m .settings) r)
 
-  pub nothing-lost : Throughout after InS0 m (readA (m .settings) r ∷ restOf stepOf m r) → NothingLost stepOf m r
+  pub nothing-lost : Throughout after InS0 m (readA (m .settings) r ∷ restOf stepOf m r) → NothingLost stepOf m r (Unshown stepOf m r)
   unfolding Throughout first
   nothing-lost awake =
       let s = m .settings in

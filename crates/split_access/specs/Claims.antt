@@ -8,15 +8,13 @@ use Rattle.runs.specs.Items.{Item, one, control, event, original, moved, stepsO
 use Rattle.platform.specs.Blocks.{present}
 use Rattle.platform.specs.declared.block.Block.{Block}
 use Rattle.platform.specs.declared.settings.Settings.{Settings}
-use Rattle.platform.specs.declared.rules.SetUpAnswer.the-variants as set-up
 use Rattle.machine.specs.declared.Machine.{Machine}
-use Rattle.machine.specs.declared.SetUp.{SetUp}
 use Rattle.model.specs.declared.Access.{Access}
 use Rattle.model.specs.declared.Answer.{Answer}
 use Rattle.model.specs.declared.Event.{Event}
 use Rattle.model.specs.declared.Step.{Step}
 use Rattle.model.specs.declared.Step.the-variants as step
-use Rattle.model.specs.declared.Stepped.{Stepped}
+use Rattle.split_access.specs.Start.{SettingUp, Stepping, nextBy, InS0, FromSetUp}
 use Rattle.split_access.specs.Gap.{before, isButton, isTicking}
 
 -- an access as the guest writes it: the block's address plus an offset
@@ -66,29 +64,22 @@ pub data ItemWith (G : List Step → Type 0) (s : Settings) : Item Step → Type
 abbrev pub ItemOn : Settings → Item Step → Type 0
 ItemOn s i = ItemWith Gap s i
 
--- "Awake is S0."
-abbrev pub InS0 : Machine → Type 0
-InS0 m = m .state ≡ 0
-
 -- a machine keeps its answers and its end when the gaps' steps are moved out of the split accesses: of these items, with the steps that pass
 -- the test moved before an event access
-abbrev pub MovesBy : (Settings → Item Step → Type 0) → (Settings → Step → Bool) → (Machine → Step → Stepped) → Machine → Type 0
+abbrev pub MovesBy : (Settings → Item Step → Type 0) → (Settings → Step → Bool) → Stepping → Machine → Type 0
 MovesBy On first stepped m =
     (items : List (Item (Step × Answer))) (end : Machine)
     → Every (On (m .settings)) (stepsOf items)
-    → Awake (λ k x. stepped k x .machine) InS0 m (stepsOf items)
-    → Run (λ k x. stepped k x .answer) (λ k x. stepped k x .machine) m (original items) end
-    → Run (λ k x. stepped k x .answer) (λ k x. stepped k x .machine) m (moved (λ p. first (m .settings) (p .0)) items) end
+    → Awake (nextBy stepped) InS0 m (stepsOf items)
+    → Run (λ k x. stepped k x .answer) (nextBy stepped) m (original items) end
+    → Run (λ k x. stepped k x .answer) (nextBy stepped) m (moved (λ p. first (m .settings) (p .0)) items) end
 
-abbrev pub MovesFrom : (Machine → Step → Stepped) → Machine → Type 0
+abbrev pub MovesFrom : Stepping → Machine → Type 0
 MovesFrom stepped m = MovesBy ItemOn before stepped m
 
 -- "Demand 3 is one claim about a whole list": from every machine as setting up gives it
-abbrev pub Demand3By : (Settings → Item Step → Type 0) → (Settings → Step → Bool) → (List ℕ → ℕ → ℕ → Bool → List (List ℕ) → SetUp) → (Machine → Step → Stepped) → Type 0
-Demand3By On first settled stepped =
-    (t : List ℕ) (event-homes control-homes : ℕ) (power-override : Bool) (pairs : List (List ℕ))
-    → settled t event-homes control-homes power-override pairs .answer ≡ set-up.Done
-    → MovesBy On first stepped (settled t event-homes control-homes power-override pairs .machine)
+abbrev pub Demand3By : (Settings → Item Step → Type 0) → (Settings → Step → Bool) → SettingUp → Stepping → Type 0
+Demand3By On first settled stepped = FromSetUp settled (MovesBy On first stepped)
 
-abbrev pub Demand3 : (List ℕ → ℕ → ℕ → Bool → List (List ℕ) → SetUp) → (Machine → Step → Stepped) → Type 0
+abbrev pub Demand3 : SettingUp → Stepping → Type 0
 Demand3 settled stepped = Demand3By ItemOn before settled stepped

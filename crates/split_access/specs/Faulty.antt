@@ -1,13 +1,16 @@
--- Two steps that were paid for and failed, and demand 3 changed in two ways. That each is wrong is shown in `proofs/Refuted.antt`.
+-- Three steps that were paid for and failed, demand 3 changed in two ways, and the write-back without its exemption.
+-- That each is wrong is shown in `proofs/Refuted.antt`.
 use mathlib.Core.Bool.{Bool, true, false, not, cond, _&&_}
+use Prim.Native.Nat.{ℕ}
 use lib.Bits.{bitAnd}
 use Rattle.bits.specs.Cell.{kept}
 use Rattle.runs.specs.Items.{Item, Every}
 use Rattle.platform.specs.Cells.{statusCells}
 use Rattle.platform.specs.declared.settings.Settings.{Settings}
 use Rattle.machine.specs.Cells.{shown, placed, covered, inStatus}
-use Rattle.machine.specs.Fields.{withEvent}
+use Rattle.machine.specs.Fields.{withEvent, enter}
 use Rattle.machine.specs.declared.Machine.{Machine}
+use Rattle.model.specs.Bus.{completes, namedState, controlled, writeOf}
 use Rattle.model.specs.Step.{registerOf, offsetOf, answerTo, accepted, after, stepOf}
 use Rattle.model.specs.declared.Access.{Access}
 use Rattle.model.specs.declared.Answer.the-variants as answer
@@ -15,9 +18,10 @@ use Rattle.model.specs.declared.Register.{Register}
 use Rattle.model.specs.declared.Register.the-variants as register
 use Rattle.model.specs.declared.Step.{Step}
 use Rattle.model.specs.declared.Step.the-variants as step
-use Rattle.model.specs.declared.Stepped.{Stepped}
+use Rattle.split_access.specs.Start.{Stepping}
 use Rattle.split_access.specs.Gap.{before}
 use Rattle.split_access.specs.Claims.{GapStep, ItemWith}
+use Rattle.split_access.specs.WriteBack.{Round}
 
 -- ---- the steps
 
@@ -34,19 +38,26 @@ isEventRegister register.Nowhere = false
 abbrev pub atStatus : Machine → Access → Bool
 atStatus m a = isEventRegister (registerOf m a) && inStatus (offsetOf m a)
 
--- 1: "It cleared the whole status register when the guest wrote to it."
-abbrev pub wiped : Machine → Step → Machine
-wiped m (step.Read a) = after m (step.Read a)
-wiped m (step.Write a written) = cond (atStatus m a) (withEvent m 0 (m .«pm1_en»)) (after m (step.Write a written))
-wiped m (step.Event e) = after m (step.Event e)
-wiped m step.Take = after m step.Take
-wiped m step.Drop = after m step.Drop
+-- a step that answers as the machine does, and does the same but for what an accepted write does
+abbrev pub doneBy : (Machine → Access → ℕ → Machine) → Machine → Step → Machine
+doneBy write m (step.Read a) = after m (step.Read a)
+doneBy write m (step.Write a written) = cond (accepted (answerTo m (step.Write a written))) (write m a written) m
+doneBy write m (step.Event e) = after m (step.Event e)
+doneBy write m step.Take = after m step.Take
+doneBy write m step.Drop = after m step.Drop
 
-abbrev pub clearsAll : Machine → Step → Stepped
-clearsAll m x = record { answer = answerTo m x; machine = cond (accepted (answerTo m x)) (wiped m x) m }
+abbrev pub writingBy : (Machine → Access → ℕ → Machine) → Stepping
+writingBy write m x = record { answer = answerTo m x; machine = doneBy write m x }
+
+-- 1: "It cleared the whole status register when the guest wrote to it."
+abbrev pub wiped : Machine → Access → ℕ → Machine
+wiped m a written = cond (atStatus m a) (withEvent m 0 (m .«pm1_en»)) (after m (step.Write a written))
+
+abbrev pub clearsAll : Stepping
+clearsAll = writingBy wiped
 
 -- 2: "It cleared only the written bits, but kept the register as one.": each block shows all of it, and clears in all of it
-abbrev pub asOne : Machine → Step → Stepped
+abbrev pub asOne : Stepping
 asOne m (step.Read a) =
     cond (atStatus m a)
     (record { answer = answer.Done (shown (a .width) (offsetOf m a) (bitAnd (m .«pm1_sts») (statusCells (m .settings)))); machine = m })
@@ -60,8 +71,24 @@ asOne m (step.Event e) = stepOf m (step.Event e)
 asOne m step.Take = stepOf m step.Take
 asOne m step.Drop = stepOf m step.Drop
 
-abbrev pub oneRegister : Machine → Step → Stepped
+abbrev pub oneRegister : Stepping
 oneRegister m x = cond (accepted (answerTo m x)) (asOne m x) (stepOf m x)
+
+-- 3: "An alarm already pending and enabled when the lid closed did not wake the machine.": a write that completes enters the state, whatever is set
+abbrev pub sentToSleep : Machine → Register → ℕ → ℕ → ℕ → Machine
+sentToSleep m register.SmiCmd width offset written = writeOf m register.SmiCmd width offset written
+sentToSleep m (register.Pm1Evt b) width offset written = writeOf m (register.Pm1Evt b) width offset written
+sentToSleep m (register.Pm1Cnt b) width offset written =
+    cond (completes m b width offset written)
+    (enter (controlled m b width offset written) (namedState m b width offset written))
+    (controlled m b width offset written)
+sentToSleep m register.Pm2Cnt width offset written = writeOf m register.Pm2Cnt width offset written
+sentToSleep m register.PmTmr width offset written = writeOf m register.PmTmr width offset written
+sentToSleep m (register.Gpe b) width offset written = writeOf m (register.Gpe b) width offset written
+sentToSleep m register.Nowhere width offset written = writeOf m register.Nowhere width offset written
+
+abbrev pub ignoresPending : Stepping
+ignoresPending = writingBy (λ m a written. sentToSleep m (registerOf m a) (a .width) (offsetOf m a) written)
 
 -- ---- the claims
 
@@ -72,3 +99,7 @@ otherSide s x = not (before s x)
 -- an item as in demand 3, with "no gap holds both a press or release and ticks" left out
 abbrev pub MixedItemOn : Settings → Item Step → Type 0
 MixedItemOn s i = ItemWith (Every GapStep) s i
+
+-- every PM1 bit: the write-back with "unless it is a PM1 bit that the value read from its home shows" left out
+abbrev pub EveryBit : Stepping → Machine → Round → ℕ → Type 0
+EveryBit stepped m r i = Unit {0}

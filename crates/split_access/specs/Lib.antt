@@ -1,4 +1,6 @@
+pub mod Start
 pub mod Gap
 pub mod Claims
 pub mod WriteBack
+pub mod WakesAtOnce
 pub mod Faulty

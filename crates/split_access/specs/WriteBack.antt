@@ -9,17 +9,15 @@ use Rattle.bits.specs.Digit.{digit}
 use Rattle.runs.specs.Items.{Every, Throughout, after}
 use Rattle.platform.specs.Blocks.{present}
 use Rattle.platform.specs.declared.settings.Settings.{Settings}
-use Rattle.platform.specs.declared.rules.SetUpAnswer.the-variants as set-up
 use Rattle.machine.specs.Cells.{placed, gpeSts}
 use Rattle.machine.specs.declared.Machine.{Machine}
-use Rattle.machine.specs.declared.SetUp.{SetUp}
 use Rattle.model.specs.Answer.{valueOf}
 use Rattle.model.specs.Raises.{raises, gpeRaises}
 use Rattle.model.specs.declared.Step.{Step}
 use Rattle.model.specs.declared.Step.the-variants as step
-use Rattle.model.specs.declared.Stepped.{Stepped}
-use Rattle.split_access.specs.Claims.{accessAt, GapStep, InS0}
+use Rattle.split_access.specs.Start.{SettingUp, Stepping, nextBy, InS0, AfterSteps}
 use Rattle.split_access.specs.Gap.{livesInB}
+use Rattle.split_access.specs.Claims.{accessAt, GapStep}
 
 -- some step of the list raises the bit: what a step raises is told by the step and the machine that it finds
 unfoldable pub RaisedIn : (Machine → Step → Machine) → (Machine → Step → ℕ) → ℕ → Machine → List Step → Type 0
@@ -50,11 +48,7 @@ readA s r = step.Read (accessAt (s .«pm1a_evt») (r .offset) (r .width))
 abbrev pub readB : Settings → Round → Step
 readB s r = step.Read (accessAt (s .«pm1b_evt») (r .offset) (r .width))
 
--- the machine that a step leaves
-abbrev pub nextBy : (Machine → Step → Stepped) → Machine → Step → Machine
-nextBy stepped m x = stepped m x .machine
-
-module _ (stepped : Machine → Step → Stepped) (m : Machine) (r : Round) where
+module _ (stepped : Stepping) (m : Machine) (r : Round) where
   -- the machine that the first half read leaves
   abbrev pub afterRead : Machine
   afterRead = stepped m (readA (m .settings) r) .machine
@@ -63,7 +57,7 @@ module _ (stepped : Machine → Step → Stepped) (m : Machine) (r : Round) wher
   abbrev pub valueA : ℕ
   valueA = valueOf (stepped m (readA (m .settings) r) .answer)
 
-  -- .. and the second, after the first gap
+  -- the value that the second half reads, after the first gap
   abbrev pub valueB : ℕ
   valueB = valueOf (stepped (after (nextBy stepped) afterRead (r .gap₁)) (readB (m .settings) r) .answer)
 
@@ -82,24 +76,31 @@ module _ (stepped : Machine → Step → Stepped) (m : Machine) (r : Round) wher
   abbrev pub shownDigit : ℕ → ℕ
   shownDigit i = digit i (placed (r .offset) (cond (livesInB (m .settings) (2 ^ i)) valueB valueA))
 
-  -- "Every PM1 or GPE status bit raised after the first half read is set at the end, unless it is a PM1 bit that the value read from its home shows."
-  pub record NothingLost : Type 0 where
-    pub pm1 : (i : ℕ) → i < 16 → RaisedIn (nextBy stepped) raises i afterRead restOf → shownDigit i ≡ 0
+  -- "unless it is a PM1 bit that the value read from its home shows"
+  abbrev pub Unshown : ℕ → Type 0
+  Unshown i = shownDigit i ≡ 0
+
+  -- "Every PM1 or GPE status bit raised after the first half read is set at the end": of the PM1 bits, those that are owed
+  pub record NothingLost (Owed : ℕ → Type 0) : Type 0 where
+    pub pm1 : (i : ℕ) → i < 16 → RaisedIn (nextBy stepped) raises i afterRead restOf → Owed i
         → digit i (after (nextBy stepped) afterRead restOf .«pm1_sts») ≡ 1
     pub gpe : (b : Bool) (i j : ℕ) → j < 8 → RaisedIn (nextBy stepped) (λ k x. gpeRaises k x b i) j afterRead restOf
         → digit j (getD (gpeSts (after (nextBy stepped) afterRead restOf) b) i 0) ≡ 1
 
 -- "the machine stays awake": at the first half, after it and after each later step
-abbrev pub WritesBackFrom : (Machine → Step → Stepped) → Machine → Type 0
-WritesBackFrom stepped m =
+abbrev pub WritesBackBy : (Stepping → Machine → Round → ℕ → Type 0) → Stepping → Machine → Type 0
+WritesBackBy Owed stepped m =
     (r : Round) → RoundOn (m .settings) r
     → Throughout (nextBy stepped) InS0 m (readA (m .settings) r ∷ restOf stepped m r)
-    → NothingLost stepped m r
+    → NothingLost stepped m r (Owed stepped m r)
 
--- "after any steps from setting up"
-abbrev pub WriteBack : (List ℕ → ℕ → ℕ → Bool → List (List ℕ) → SetUp) → (Machine → Step → Stepped) → Type 0
-WriteBack settled stepped =
-    (t : List ℕ) (event-homes control-homes : ℕ) (power-override : Bool) (pairs : List (List ℕ))
-    → settled t event-homes control-homes power-override pairs .answer ≡ set-up.Done
-    → (steps : List Step)
-    → WritesBackFrom stepped (after (nextBy stepped) (settled t event-homes control-homes power-override pairs .machine) steps)
+abbrev pub WritesBackFrom : Stepping → Machine → Type 0
+WritesBackFrom stepped m = WritesBackBy Unshown stepped m
+
+-- "after any steps from setting up", with these PM1 bits owed
+abbrev pub WriteBackBy : (Stepping → Machine → Round → ℕ → Type 0) → SettingUp → Stepping → Type 0
+WriteBackBy Owed settled stepped = AfterSteps settled stepped (WritesBackBy Owed stepped)
+
+-- the write-back: owed is each bit that the value read from its home does not show
+abbrev pub WriteBack : SettingUp → Stepping → Type 0
+WriteBack settled stepped = WriteBackBy Unshown settled stepped

@@ -1,0 +1,132 @@
+-- A step that leaves a machine asleep that was awake found nothing pending. Only a control write that completes enters one of S1 to S4, and it looks first:
+-- with a bit pending it ends in S0 again. Every other step keeps S0, or by the override enters S5. Assumes nothing.
+use mathlib.Core.Bool.{Bool, true, false, cond, _&&_, false≢true}
+use mathlib.Core.Path.{_≡_, refl, sym, _∙_, ap}
+use Prim.Native.Nat.{ℕ}
+use Rattle.clock.specs.AtOnce.{overridden}
+use Rattle.machine.specs.SetUp.{setUpOf}
+use Rattle.machine.specs.Sleep.{isSleeping, pending, completed}
+use Rattle.machine.specs.declared.Machine.{Machine}
+use Rattle.model.specs.Bus.{completes, namedState, controlled, controlWritten, writeOf}
+use Rattle.model.specs.Step.{registerOf, offsetOf, answerTo, accepted, doneOf, after, stepOf}
+use Rattle.model.specs.declared.Event.{Event}
+use Rattle.model.specs.declared.Event.the-variants as event
+use Rattle.model.specs.declared.Register.{Register}
+use Rattle.model.specs.declared.Register.the-variants as register
+use Rattle.model.specs.declared.Step.{Step}
+use Rattle.model.specs.declared.Step.the-variants as step
+use Rattle.model.proofs.LinesExactly.{awake-exactly}
+use Rattle.model.proofs.Steps.{ticks-done}
+use Rattle.model.proofs.Ticks.{cond-ap, ticks-state}
+use Rattle.split_access.specs.WakesAtOnce.{WakesAtOnceFrom, WakesAtOnce}
+use Rattle.split_access.proofs.Effects.{On, event-affects}
+
+-- from m, if the state is one of S1 to S4, nothing is pending for it
+abbrev Rests : Machine → ℕ → Type 0
+Rests m state = isSleeping state ≡ true → pending m state ≡ false
+
+-- S0 and S5 are none of S1 to S4
+zero-rests : (m : Machine) (state : ℕ) → state ≡ 0 → Rests m state
+unfolding isSleeping
+zero-rests m state z e = absurd (false≢true (rw z at e))
+
+five-rests : (m : Machine) → Rests m 5
+unfolding isSleeping
+five-rests m e = absurd (false≢true e)
+
+rests-if : (m : Machine) (t : Bool) (x y : Machine) → Rests m (x .state) → Rests m (y .state) → Rests m (cond t x y .state)
+rests-if m true x y p q = p
+rests-if m false x y p q = q
+
+-- ---- completing
+
+-- "the machine wakes in the same step": S0 again, where one of S1 to S4 is completed with something pending
+pub completed-state : (m : Machine) (state : ℕ) → completed m state .state ≡ cond (isSleeping state && pending m state) 0 state
+unfolding completed
+completed-state m state = cond-ap (λ (k : Machine). k .state) (isSleeping state && pending m state) _ _
+
+completed-rests : (m : Machine) (state : ℕ) → Rests m (completed m state .state)
+unfolding isSleeping
+completed-rests m state = rw (completed-state m state) (go (isSleeping state) (pending m state) refl refl)
+  where
+    go : (l p : Bool) → isSleeping state ≡ l → pending m state ≡ p → Rests m (cond (l && p) 0 state)
+    go true true e f h = absurd (false≢true h)
+    go true false e f h = f
+    go false p e f h = absurd (false≢true (sym e ∙ h))
+
+-- ---- a machine that is awake
+
+module _ (m : Machine) (z : m .state ≡ 0) where
+  -- a step that keeps the state
+  still : Rests m (m .state)
+  still = zero-rests m (m .state) z
+
+  -- ---- writes
+
+  -- a control write changes nothing of what is looked at
+  control-rests : (b : Bool) (width offset written : ℕ) → Rests m (controlWritten m b width offset written .state)
+  unfolding pending
+  control-rests b width offset written =
+      rests-if m (completes m b width offset written) _ _
+      (completed-rests (controlled m b width offset written) (namedState m b width offset written)) still
+
+  write-rests : (r : Register) (width offset written : ℕ) → Rests m (writeOf m r width offset written .state)
+  unfolding writeOf
+  write-rests register.SmiCmd width offset written = still
+  write-rests (register.Pm1Evt b) width offset written = still
+  write-rests (register.Pm1Cnt b) width offset written = control-rests b width offset written
+  write-rests register.Pm2Cnt width offset written = still
+  write-rests register.PmTmr width offset written = still
+  write-rests (register.Gpe true) width offset written = still
+  write-rests (register.Gpe false) width offset written = still
+  write-rests register.Nowhere width offset written = still
+
+  -- ---- events
+
+  -- an event that is no override keeps S0
+  kept-rests : (e : Event) → On m e → Rests m (after m (step.Event e) .state)
+  kept-rests e on = zero-rests m _ (ap (λ (k : Machine). k .state) (event-affects m e z on .1) ∙ z)
+
+  ticks-rest : (n : ℕ) → Rests m (after m (step.Event (event.Ticks n)) .state)
+  ticks-rest n =
+      rw (ticks-done m n, ticks-state n m (awake-exactly m .1 z))
+      (go (overridden (m .button) (m .settings .«power_override») (m .hold) n))
+    where
+      go : (t : Bool) → Rests m (cond t 5 0)
+      go true = five-rests m
+      go false = zero-rests m 0 refl
+
+  event-rests : (e : Event) → Rests m (after m (step.Event e) .state)
+  event-rests event.Press = kept-rests event.Press refl
+  event-rests event.Release = kept-rests event.Release refl
+  event-rests event.SleepPress = kept-rests event.SleepPress refl
+  event-rests event.Alarm = kept-rests event.Alarm refl
+  event-rests event.PcieWake = kept-rests event.PcieWake refl
+  event-rests event.BusMaster = kept-rests event.BusMaster refl
+  event-rests event.Unlock = kept-rests event.Unlock refl
+  event-rests (event.General k) = kept-rests (event.General k) refl
+  event-rests (event.Ticks n) = ticks-rest n
+
+  -- ---- every step
+
+  -- a refusal keeps the state too
+  either-rests : (x : Step) → Rests m (doneOf m x .state) → Rests m (after m x .state)
+  unfolding after
+  either-rests x p = rests-if m (accepted (answerTo m x)) (doneOf m x) m p still
+
+  step-rests : (x : Step) → Rests m (after m x .state)
+  step-rests (step.Read a) = either-rests (step.Read a) still
+  step-rests (step.Write a written) = either-rests (step.Write a written) (write-rests (registerOf m a) (a .width) (offsetOf m a) written)
+  step-rests (step.Event e) = event-rests e
+  step-rests step.Take = either-rests step.Take still
+  step-rests step.Drop = either-rests step.Drop still
+
+-- ---- the claim
+
+-- from every machine
+pub wakes-at-once-from : (m : Machine) → WakesAtOnceFrom stepOf m
+wakes-at-once-from m x z = step-rests m z x
+
+-- "after any steps from setting up"
+pub wakes-at-once : WakesAtOnce setUpOf stepOf
+wakes-at-once t event-homes control-homes power-override pairs e steps = wakes-at-once-from _
