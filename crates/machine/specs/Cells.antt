@@ -3,7 +3,7 @@ use mathlib.Core.Bool.{Bool, not, cond, _&&_, _||_}
 use mathlib.Core.List.{List}
 use Prim.Native.Nat.{ℕ, _*_, _-_, _/_, _%_, _^_}
 use lib.Bits.{bitAnd, bitOr}
-use lib.Dec.{eqb, ltb}
+use lib.Dec.{eqb, ltb, leb}
 use lib.ListN.{getD, set}
 use Rattle.bits.specs.Cell.{kept, clearedBy, takenBy, lane, byteAt}
 use Rattle.platform.specs.Blocks.{present}
@@ -57,13 +57,17 @@ enableIn s b = bitAnd (enableCells s) (homesIn (s .«event_homes») b)
 abbrev pub laneAt : ℕ → ℕ
 laneAt offset = offset % 2
 
+-- "PM1 one byte, or two bytes at a register's start"
+abbrev pub oneByte : ℕ → ℕ → Bool
+oneByte width offset = not (eqb (laneAt offset) 0) || eqb width 1
+
 -- what an access of the width shows of the register
 abbrev pub shown : ℕ → ℕ → ℕ → ℕ
-shown width offset register = cond (eqb width 1) (byteAt (laneAt offset) register) register
+shown width offset register = cond (oneByte width offset) (byteAt (laneAt offset) register) register
 
 -- the register's bits that the access covers
 abbrev pub covered : ℕ → ℕ → ℕ
-covered width offset = cond (eqb width 1) (lane (laneAt offset) 255) (2 ^ 16 - 1)
+covered width offset = cond (oneByte width offset) (lane (laneAt offset) 255) (2 ^ 16 - 1)
 
 -- what is written, at its place in the register
 abbrev pub placed : ℕ → ℕ → ℕ
@@ -71,9 +75,12 @@ placed offset written = lane (laneAt offset) written
 
 -- ---- the PM1 event registers
 
--- "The status half comes first, the enable half second."
+-- "The status half comes first, the enable half second.": two bytes each
 unfoldable pub inStatus : ℕ → Bool
 inStatus offset = ltb offset 2
+
+unfoldable pub inEnable : ℕ → Bool
+inEnable offset = leb 2 offset && ltb offset 4
 
 -- "Elsewhere, and for unfitted or reserved bits, reads give zero": what the block's halves show
 abbrev pub statusRegister : Machine → Bool → ℕ
@@ -83,18 +90,21 @@ abbrev pub enableRegister : Machine → Bool → ℕ
 enableRegister m b = bitAnd (m .«pm1_en») (enableIn (m .settings) b)
 
 abbrev pub eventRegister : Machine → Bool → ℕ → ℕ
-eventRegister m b offset = cond (inStatus offset) (statusRegister m b) (enableRegister m b)
+eventRegister m b offset = cond (inStatus offset) (statusRegister m b) (cond (inEnable offset) (enableRegister m b) 0)
 
--- the ones written to fitted status bits that live in the block
+-- the status bits that a write to the block may clear
+abbrev pub clearable : Machine → Bool → ℕ
+clearable m b = statusIn (m .settings) b
+
+-- the ones written to such bits
 abbrev pub onesIn : Machine → Bool → ℕ → ℕ → ℕ → ℕ
-onesIn m b width offset written = bitAnd (placed offset written) (bitAnd (statusIn (m .settings) b) (covered width offset))
+onesIn m b width offset written = bitAnd (placed offset written) (bitAnd (clearable m b) (covered width offset))
 
 -- "Writing one to a status bit clears it; writing zero keeps it."
 abbrev pub statusCleared : Machine → Bool → ℕ → ℕ → ℕ → ℕ
-statusCleared m b width offset written =
-    clearedBy 16 (m .«pm1_sts») (placed offset written) (bitAnd (statusIn (m .settings) b) (covered width offset))
+statusCleared m b width offset written = kept 16 (m .«pm1_sts») (onesIn m b width offset written)
 
--- .. at an offset of the status half; elsewhere the status is kept
+-- the status after a write at an offset of the status half; elsewhere it is kept
 unfoldable pub statusAfter : Machine → Bool → ℕ → ℕ → ℕ → ℕ
 statusAfter m b width offset written = cond (inStatus offset) (statusCleared m b width offset written) (m .«pm1_sts»)
 
@@ -103,9 +113,9 @@ abbrev pub enableTaken : Machine → Bool → ℕ → ℕ → ℕ → ℕ
 enableTaken m b width offset written =
     takenBy 16 (m .«pm1_en») (placed offset written) (bitAnd (enableIn (m .settings) b) (covered width offset))
 
--- .. at an offset of the enable half
+-- the enables after a write at an offset of the enable half
 unfoldable pub enableAfter : Machine → Bool → ℕ → ℕ → ℕ → ℕ
-enableAfter m b width offset written = cond (inStatus offset) (m .«pm1_en») (enableTaken m b width offset written)
+enableAfter m b width offset written = cond (inEnable offset) (enableTaken m b width offset written) (m .«pm1_en»)
 
 -- ---- the PM1 control registers
 
@@ -128,14 +138,18 @@ slpTyp m b = cond b (m .«slp_typ_b») (m .«slp_typ_a»)
 -- "0 SCI_EN (writes ignored), 1 BM_RLD, 2 GBL_RLS (.. reads zero), each in its home; 10 to 12 SLP_TYP in both blocks; 13 SLP_EN, reads zero"
 abbrev pub controlRegister : Machine → Bool → ℕ
 controlRegister m b =
-    bitOr (bitOr (bitWhen (controlIn (m .settings) b 0 && m .«sci_en») 0) (bitWhen (controlIn (m .settings) b 1 && m .«bm_rld») 1)) (slpTyp m b * 2 ^ 10)
+    bitOr (bitOr (bitWhen (controlIn (m .settings) b 0 && m .«sci_en») 0) (bitWhen (controlIn (m .settings) b 1 && m .«bm_rld») 1)) (slpTyp m b % 8 * 2 ^ 10)
+
+-- what a read at the offset shows: the register has two bytes
+abbrev pub controlShown : Machine → Bool → ℕ → ℕ → ℕ
+controlShown m b width offset = shown width offset (cond (ltb offset 2) (controlRegister m b) 0)
 
 -- the access covers the register's low byte, or its high byte
-unfoldable pub coversLow : ℕ → ℕ → Bool
-coversLow width offset = eqb width 2 || eqb (laneAt offset) 0
+unfoldable pub coversLow : ℕ → Bool
+coversLow offset = eqb offset 0
 
 unfoldable pub coversHigh : ℕ → ℕ → Bool
-coversHigh width offset = eqb width 2 || eqb (laneAt offset) 1
+coversHigh width offset = eqb offset 1 || (eqb offset 0 && eqb width 2)
 
 -- bit n of what is written at the offset
 unfoldable pub writtenBit : ℕ → ℕ → ℕ → Bool

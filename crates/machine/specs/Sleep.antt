@@ -7,6 +7,8 @@ use Rattle.cells.specs.Cells.{flagOf}
 use Rattle.bits.specs.Cell.{kept}
 use Rattle.machine.specs.PowerOn.{noBytes}
 use Rattle.machine.specs.declared.Machine.{Machine}
+use Rattle.machine.specs.declared.sleeping.WakeSource.{WakeSource}
+use Rattle.machine.specs.declared.sleeping.WakeSource.the-variants as source
 use Rattle.platform.specs.declared.settings.Settings.{Settings}
 use Rattle.machine.specs.Cells.{pwrbtnBit, slpbtnBit, rtcBit, wakBit, hasBit}
 use Rattle.machine.specs.Fields.{withEvent, withGpe, withControl, withCommand, withArbDis, withSciEn, enter}
@@ -20,13 +22,13 @@ isSleeping state = leb 1 state && leb state 4
 unfoldable pub wakeBits : Settings → ℕ → ℕ
 wakeBits s state = cond (not (eqb state 4) || flagOf (s .flags) 7) (pwrbtnBit + slpbtnBit + rtcBit) (pwrbtnBit + slpbtnBit)
 
--- "Wake from S1 to S4 .. WAK is set. .. Registers are kept."
-abbrev pub woken : Machine → Machine
-woken m = enter (withEvent m (bitOr (m .«pm1_sts») wakBit) (m .«pm1_en»)) 0
+-- "Wake from S1 to S4 .. WAK is set. .. Registers are kept.": whatever woke it, a status bit or more than one
+abbrev pub woken : WakeSource → Machine → Machine
+woken source m = enter (withEvent m (bitOr (m .«pm1_sts») wakBit) (m .«pm1_en»)) 0
 
 -- an event in S1 to S4 that wakes, or does not
-abbrev pub wokenIf : Bool → Machine → Machine
-wokenIf test m = cond (isSleeping (m .state) && test) (woken m) m
+abbrev pub wokenIf : WakeSource → Bool → Machine → Machine
+wokenIf source test m = cond (isSleeping (m .state) && test) (woken source m) m
 
 -- "one of the enabled bits 8, 9, 10 .. or an enabled GPE is already set"
 unfoldable pub pending : Machine → ℕ → Bool
@@ -34,7 +36,7 @@ pending m state = hasBit (bitAnd (m .«pm1_sts») (m .«pm1_en»)) (wakeBits (m 
 
 -- "If on completing S1 to S4 .. already set, the machine wakes in the same step."
 unfoldable pub completed : Machine → ℕ → Machine
-completed m state = wokenIf (pending m state) (enter m state)
+completed m state = wokenIf source.NotKnown (pending m state) (enter m state)
 
 -- "From S5 only a press wakes: all PM1 and GPE cells, BM_RLD, SLP_TYP, PM2, release flag and command zero, .. counter kept; SCI_EN as at power-on; WAK not set."
 abbrev pub restarted : Machine → Machine

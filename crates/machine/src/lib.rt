@@ -10,6 +10,7 @@ use platform::Block;
 use platform::SetUpAnswer;
 use platform::Settings;
 use sleep::SleepTable;
+pub use sleeping::WakeSource;
 pub use sleeping::is_sleeping;
 pub use sleeping::wake_bits;
 pub use status::BM;

@@ -3,6 +3,7 @@ use crate::GPE_BYTES;
 use crate::Machine;
 use crate::status::has_bit;
 use crate::status::has_bit8;
+use cells::Column;
 ghost use mathlib.Core.Path.{_≡_};
 ghost use Rattle.machine.specs.Lines.{awake, anyEnabled, gpeEvent, pm1Event, eventOutput, sciOf, smiOf};
 
@@ -37,10 +38,17 @@ pub(crate) fn gpe_event(m: Machine) -> bool
     any_enabled(sts0, en0) | any_enabled(sts1, en1)
 }
 
+// The bits that raise SCI or SMI, 0721 hex: the table's, the same on every platform.
+fn event_bits() -> u16
+    ensures { λ r. ⌜ r ≡ 0x0721 ⌝ }
+{
+    cells::mask(Column::Event, 0, false)
+}
+
 fn pm1_event(m: Machine) -> bool
     ensures { λ r. ⌜ r ≡ pm1Event m ⌝ }
 {
-    has_bit(m.pm1_sts & m.pm1_en, 0x0721)
+    has_bit(m.pm1_sts & m.pm1_en, event_bits())
 }
 
 fn event_output(m: Machine) -> bool

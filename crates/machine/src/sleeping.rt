@@ -13,6 +13,13 @@ ghost use mathlib.Core.Path.{_≡_};
 ghost use Rattle.machine.specs.Fields.{enter};
 ghost use Rattle.machine.specs.Sleep.{isSleeping, wakeBits, woken, wokenIf, pending, completed, restarted, overridden};
 
+// What wakes a machine: a PM1 status bit by its number, a general event by its own, or not known which of several.
+pub enum WakeSource {
+    Pm1(u8),
+    Gpe(u32),
+    NotKnown,
+}
+
 // S1 to S4.
 pub fn is_sleeping(state: u8) -> bool
     ensures { λ r. ⌜ r ≡ isSleeping state ⌝ }
@@ -46,19 +53,19 @@ impl Machine {
         self
     }
 
-    // Wake from S1 to S4: WAK is set, registers are kept.
-    pub fn wake(mut self) -> Machine
-        ensures { λ r. ⌜ r ≡ woken self ⌝ }
+    // Wake from S1 to S4: WAK is set, registers are kept. Nothing keeps the source yet.
+    pub fn wake(mut self, source: WakeSource) -> Machine
+        ensures { λ r. ⌜ r ≡ woken source self ⌝ }
     {
         self.pm1_sts = self.pm1_sts | WAK;
         self.enter(0)
     }
 
-    pub fn wake_if(self, test: bool) -> Machine
-        ensures { λ r. ⌜ r ≡ wokenIf test self ⌝ }
+    pub fn wake_if(self, source: WakeSource, test: bool) -> Machine
+        ensures { λ r. ⌜ r ≡ wokenIf source test self ⌝ }
     {
         if is_sleeping(self.state) & test {
-            self.wake()
+            self.wake(source)
         } else {
             self
         }
@@ -68,7 +75,8 @@ impl Machine {
     pub fn complete(self, state: u8) -> Machine
         ensures { λ r. ⌜ r ≡ completed self state ⌝ }
     {
-        self.enter(state).wake_if(pending(self, state))
+        self.enter(state)
+            .wake_if(WakeSource::NotKnown, pending(self, state))
     }
 
     // A press in S5: cells, BM_RLD, SLP_TYP, PM2, release flag and command zero; the counter is kept.

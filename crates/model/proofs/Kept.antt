@@ -27,17 +27,21 @@ use Rattle.platform.specs.Rules.{smiBlock, blocksOf}
 use Rattle.platform.specs.declared.block.Block.{Block}
 use Rattle.platform.specs.declared.settings.Settings.{Settings}
 use Rattle.platform.proofs.Legal.{holds-from}
-use Rattle.machine.specs.Cells.{bmBit, gblBit, pwrbtnBit, slpbtnBit, rtcBit, pciexpWakeBit, hasBit, enableIn, covered, placed, inStatus, onesIn, statusAfter, enableAfter, hasPm1bCnt, coversHigh, writtenBit}
+use Rattle.machine.specs.Cells.{pwrbtnBit, enableIn, covered, placed, inStatus, inEnable, onesIn, statusAfter, enableAfter, hasPm1bCnt, coversHigh, writtenBit}
 use Rattle.machine.specs.Fields.{withEvent, withControl, withCommand, withButton, withArbDis, withSciEn, withTime, enter}
 use Rattle.machine.specs.Lines.{awake}
 use Rattle.machine.specs.Sleep.{isSleeping, woken, wokenIf, pending, completed, restarted}
 use Rattle.machine.specs.declared.Machine.{Machine}
+use Rattle.machine.specs.declared.sleeping.WakeSource.{WakeSource}
+use Rattle.machine.specs.declared.sleeping.WakeSource.the-variants as source
+use Rattle.model.specs.Answer.{Line, firstApplying}
 use Rattle.model.specs.Bus.{leadsNowhere, completes, namedState, typAfter, armedAfter, controlled, controlWritten, gpeWritten, writeOf}
-use Rattle.model.specs.Events.{fits, raised, inS5, pressOf, releaseOf, signalOf, pcieWakeOf, inGpe0, inGpe1, generalRaised, generalEnabled, generalOf, clockOf, tmrRaised, timed, ticksOf, eventOf}
+use Rattle.model.specs.Events.{StatusBit, eventBit, pm1Mask, sourceOf, eventMask, eventSource, fitted, raised, inS5, pressOf, releaseOf, signalOf, pcieWakes, pcieWakeOf, inGpe0, inGpe1, generalRaised, generalEnabled, generalOf, clockOf, tmrRaised, timed, ticksOf, eventOf}
 use Rattle.model.specs.Firmware.{isAcpiEnable, enablesAfter, sciEnAfter}
 use Rattle.model.specs.Legal.{absentPair, stateAllowed}
 use Rattle.model.specs.Ports.{registers, placeAt, registerAt, offsetAt}
-use Rattle.model.specs.Step.{registerOf, offsetOf, linesOf, doneOf, answerTo, accepted, after}
+use Rattle.model.specs.Step.{registerOf, offsetOf, unfitted, linesOf, doneOf, answerTo, accepted, after}
+use Rattle.model.specs.declared.Answer.the-variants as answer
 use Rattle.model.specs.declared.Event.{Event}
 use Rattle.model.specs.declared.Event.the-variants as event
 use Rattle.model.specs.declared.Register.{Register}
@@ -160,10 +164,10 @@ pub record Keeps (P : Machine → Type 0) : Type 0 where
   pub arbitrates : (m : Machine) (arb-dis : Bool) → present (m .settings .«pm2_cnt») ≡ true → P m → P (withArbDis m arb-dis)
   -- sleep and wake
   pub sleeps : (m : Machine) (state : ℕ) → awake m ≡ true → stateAllowed (m .settings) state ≡ true → P m → P (enter m state)
-  pub wakes : (m : Machine) → isSleeping (m .state) ≡ true → P m → P (woken m)
+  pub wakes : (source : WakeSource) (m : Machine) → isSleeping (m .state) ≡ true → P m → P (woken source m)
   -- the power button
-  pub restarts : (m : Machine) → fits (m .settings) pwrbtnBit ≡ true → P m → P (withButton (restarted m) true 0)
-  pub presses : (m : Machine) → fits (m .settings) pwrbtnBit ≡ true → P m → P (withButton m true 0)
+  pub restarts : (m : Machine) → fitted (m .settings) event.Press ≡ true → P m → P (withButton (restarted m) true 0)
+  pub presses : (m : Machine) → fitted (m .settings) event.Press ≡ true → P m → P (withButton m true 0)
   pub releases : (m : Machine) → P m → P (releaseOf m)
   -- ticks, and those with the override
   pub ticks : (m : Machine) (n : ℕ) → awake m ≡ true → overriddenBy m n ≡ false → P m → P (ticked m n)
@@ -196,15 +200,15 @@ armed-kept m b width offset written n = go (coversHigh width offset)
 enables-within : (m : Machine) (b : Bool) (width offset written : ℕ) → within (enableCells (m .settings)) (m .«pm1_en») ≡ true
     → within (enableCells (m .settings)) (enableAfter m b width offset written) ≡ true
 unfolding enableAfter
-enables-within m b width offset written e = go (inStatus offset)
+enables-within m b width offset written e = go (inEnable offset)
   where
-    go : (t : Bool) → within (enableCells (m .settings)) (cond t (m .«pm1_en»)
-        (takenBy 16 (m .«pm1_en») (placed offset written) (bitAnd (enableIn (m .settings) b) (covered width offset)))) ≡ true
-    go true = e
-    go false =
-        let fitted = enableCells (m .settings) in
-        or-within fitted _ _ (part-within fitted (m .«pm1_en») _ e)
-        (shown-within fitted (placed offset written) _ (part-within fitted (enableIn (m .settings) b) _ (part-within fitted fitted _ (self-within fitted))))
+    go : (t : Bool) → within (enableCells (m .settings)) (cond t
+        (takenBy 16 (m .«pm1_en») (placed offset written) (bitAnd (enableIn (m .settings) b) (covered width offset))) (m .«pm1_en»)) ≡ true
+    go true =
+        let cells = enableCells (m .settings) in
+        or-within cells _ _ (part-within cells (m .«pm1_en») _ e)
+        (shown-within cells (placed offset written) _ (part-within cells (enableIn (m .settings) b) _ (part-within cells cells _ (self-within cells))))
+    go false = e
 
 taken-within : (m : Machine) → within (enableCells (m .settings)) (m .«pm1_en») ≡ true → within (enableCells (m .settings)) (enablesAfter m) ≡ true
 unfolding enablesAfter
@@ -219,40 +223,55 @@ taken-within m e = go (isAcpiEnable m) (m .«sci_en»)
 passes : (m : Machine) (s : Step) → accepted (answerTo m s) ≡ true → (k : ℕ) → rowApplies k (linesOf m s) ≡ false
 passes m s e = zero-exactly m s .0 (eqb-true _ _ e)
 
+-- an accepted event that asks to be fitted is
+first-fits : (m : Machine) (e : Event) (ls : List Line) → accepted (firstApplying (unfitted m e ∷ ls) (answer.Done 0)) ≡ true → fitted (m .settings) e ≡ true
+unfolding firstApplying
+first-fits m e ls = go (fitted (m .settings) e)
+  where
+    go : (t : Bool) → accepted (cond (not t) answer.NotFitted (firstApplying ls (answer.Done 0))) ≡ true → t ≡ true
+    go true a = refl
+    go false a = absurd (false≢true a)
+
 module _ (P : Machine → Type 0) (keeps : Keeps P) where
-  woken-kept : (test : Bool) (m : Machine) → P m → P (wokenIf test m)
-  woken-kept test m p =
-      pick P (isSleeping (m .state) && test) (woken m) m (λ e. keeps .wakes m (and-left (isSleeping (m .state)) test e) p) (λ e. p)
+  woken-kept : (source : WakeSource) (test : Bool) (m : Machine) → P m → P (wokenIf source test m)
+  woken-kept source test m p =
+      pick P (isSleeping (m .state) && test) (woken source m) m (λ e. keeps .wakes source m (and-left (isSleeping (m .state)) test e) p) (λ e. p)
 
   -- ---- events
 
-  press-kept : (m : Machine) → fits (m .settings) pwrbtnBit ≡ true → P m → P (pressOf m)
+  press-kept : (m : Machine) → fitted (m .settings) event.Press ≡ true → P m → P (pressOf m)
   unfolding pressOf
   press-kept m f p =
-      let pressed : Machine → Type 0 = λ x. P (withButton (raised x pwrbtnBit) true 0) in
-      let fitted = has-within (statusCells (m .settings)) 8 f in
-      pick pressed (inS5 m) (restarted m) (wokenIf true m)
-      (λ e. keeps .raises (withButton (restarted m) true 0) pwrbtnBit fitted (keeps .restarts m f p))
-      (λ e. pick pressed (isSleeping (m .state) && true) (woken m) m
-      (λ e. keeps .raises (withButton (woken m) true 0) pwrbtnBit fitted
-      (keeps .presses (woken m) f (keeps .wakes m (and-left (isSleeping (m .state)) true e) p)))
-      (λ e. keeps .raises (withButton m true 0) pwrbtnBit fitted (keeps .presses m f p)))
+      let bits = eventMask event.Press in
+      let by = eventSource event.Press in
+      let pressed : Machine → Type 0 = λ x. P (withButton (raised x bits) true 0) in
+      let fit = has-within (statusCells (m .settings)) 8 f in
+      pick pressed (inS5 m) (restarted m) (wokenIf by true m)
+      (λ e. keeps .raises (withButton (restarted m) true 0) bits fit (keeps .restarts m f p))
+      (λ e. pick pressed (isSleeping (m .state) && true) (woken by m) m
+      (λ e. keeps .raises (withButton (woken by m) true 0) bits fit
+      (keeps .presses (woken by m) f (keeps .wakes by m (and-left (isSleeping (m .state)) true e) p)))
+      (λ e. keeps .raises (withButton m true 0) bits fit (keeps .presses m f p)))
 
-  signal-kept : (m : Machine) (bit : ℕ) → within (statusCells (m .settings)) bit ≡ true → P m → P (signalOf m bit)
+  signal-kept : (m : Machine) (bit : StatusBit) → within (statusCells (m .settings)) (pm1Mask bit) ≡ true → P m → P (signalOf m bit)
   unfolding signalOf
-  signal-kept m bit w p = pick P (inS5 m) m (wokenIf _ (raised m bit)) (λ e. p) (λ e. woken-kept _ (raised m bit) (keeps .raises m bit w p))
+  signal-kept m bit w p =
+      let set = raised m (pm1Mask bit) in
+      pick P (inS5 m) m (wokenIf (sourceOf bit) _ set) (λ e. p) (λ e. woken-kept (sourceOf bit) _ set (keeps .raises m (pm1Mask bit) w p))
 
-  pcie-kept : (m : Machine) → within (statusCells (m .settings)) pciexpWakeBit ≡ true → P m → P (pcieWakeOf m)
+  pcie-kept : (m : Machine) → within (statusCells (m .settings)) (eventMask event.PcieWake) ≡ true → P m → P (pcieWakeOf m)
   unfolding pcieWakeOf
   pcie-kept m w p =
-      pick P (isSleeping (m .state) && not (hasBit (m .«pm1_en») pciexpWakeBit)) (wokenIf true (raised m pciexpWakeBit)) m
-      (λ e. woken-kept true (raised m pciexpWakeBit) (keeps .raises m pciexpWakeBit w p)) (λ e. p)
+      let by = eventSource event.PcieWake in
+      let set = raised m (eventMask event.PcieWake) in
+      pick P (pcieWakes m) (wokenIf by true set) m (λ e. woken-kept by true set (keeps .raises m (eventMask event.PcieWake) w p)) (λ e. p)
 
   general-kept : (m : Machine) (k : ℕ) → (inGpe0 (m .settings) k || inGpe1 (m .settings) k) ≡ true → P m → P (generalOf m k)
   unfolding generalOf
   general-kept m k h p =
-      pick P (inS5 m) m (wokenIf (generalEnabled m k) (generalRaised m k)) (λ e. p)
-      (λ e. woken-kept (generalEnabled m k) (generalRaised m k) (keeps .general m k h p))
+      let by = eventSource (event.General k) in
+      pick P (inS5 m) m (wokenIf by (generalEnabled m k) (generalRaised m k)) (λ e. p)
+      (λ e. woken-kept by (generalEnabled m k) (generalRaised m k) (keeps .general m k h p))
 
   ticks-kept : (m : Machine) (n : ℕ) → P m → P (ticksOf n m)
   unfolding timed
@@ -268,19 +287,14 @@ module _ (P : Machine → Type 0) (keeps : Keeps P) where
       (λ e. p))
 
   event-kept : (m : Machine) (e : Event) → accepted (answerTo m (step.Event e)) ≡ true → P m → P (eventOf m e)
-  unfolding eventOf any
-  event-kept m event.Press a p =
-      press-kept m (not-false (fits (m .settings) pwrbtnBit) (or-left _ _ (passes m (step.Event event.Press) a 28))) p
+  unfolding answerTo eventOf any
+  event-kept m event.Press a p = press-kept m (first-fits m event.Press _ a) p
   event-kept m event.Release a p = keeps .releases m p
-  event-kept m event.SleepPress a p =
-      signal-kept m slpbtnBit
-      (has-within _ 9 (not-false (fits (m .settings) slpbtnBit) (or-left _ _ (passes m (step.Event event.SleepPress) a 28)))) p
-  event-kept m event.Alarm a p =
-      signal-kept m rtcBit (has-within _ 10 (not-false (fits (m .settings) rtcBit) (or-left _ _ (passes m (step.Event event.Alarm) a 28)))) p
-  event-kept m event.PcieWake a p =
-      pcie-kept m (has-within _ 14 (not-false (fits (m .settings) pciexpWakeBit) (or-left _ _ (passes m (step.Event event.PcieWake) a 28)))) p
-  event-kept m event.BusMaster a p = keeps .raises m bmBit (bm-within (m .settings)) p
-  event-kept m event.Unlock a p = keeps .raises m gblBit (gbl-within (m .settings)) p
+  event-kept m event.SleepPress a p = signal-kept m (eventBit event.SleepPress) (has-within _ 9 (first-fits m event.SleepPress _ a)) p
+  event-kept m event.Alarm a p = signal-kept m (eventBit event.Alarm) (has-within _ 10 (first-fits m event.Alarm _ a)) p
+  event-kept m event.PcieWake a p = pcie-kept m (has-within _ 14 (first-fits m event.PcieWake _ a)) p
+  event-kept m event.BusMaster a p = keeps .raises m (eventMask event.BusMaster) (bm-within (m .settings)) p
+  event-kept m event.Unlock a p = keeps .raises m (eventMask event.Unlock) (gbl-within (m .settings)) p
   event-kept m (event.General k) a p =
       general-kept m k (not-false _ (or-left _ _ (passes m (step.Event (event.General k)) a 29))) p
   event-kept m (event.Ticks n) a p = ticks-kept m n p
@@ -311,7 +325,7 @@ module _ (P : Machine → Type 0) (keeps : Keeps P) where
         let x = controlled m b width offset written in
         let state = namedState m b width offset written in
         pick P (completes m b width offset written) (completed x state) x
-        (λ e. woken-kept (pending x state) (enter x state) (keeps .sleeps x state up (named-allowed (m .settings) _ _ _) (controlled-kept b r)))
+        (λ e. woken-kept source.NotKnown (pending x state) (enter x state) (keeps .sleeps x state up (named-allowed (m .settings) _ _ _) (controlled-kept b r)))
         (λ e. controlled-kept b r)
 
     write-kept : (r : Register) → Reached (m .settings) r offset → P (writeOf m r width offset written)

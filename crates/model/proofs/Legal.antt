@@ -36,7 +36,7 @@ use Rattle.model.proofs.Bytes.{Bytes, bytes-mean, mean-bytes, no-bytes,
 use Rattle.model.proofs.Fitted.{zero-within, or-within, part-within, wak-within}
 use Rattle.model.proofs.Kept.{ticked, overriddenBy, Keeps, kept-by-steps}
 use Rattle.model.proofs.LinesExactly.{awake-exactly, both}
-use Rattle.model.proofs.Steps.{settings-kept}
+use Rattle.model.proofs.Settings.{settings-kept}
 
 -- ---- tests
 
@@ -71,7 +71,7 @@ pm1-keeps =
       controls = λ m bm-rld gbl-rls a b armed up la lb nb na p. p;
       arbitrates = λ m arb-dis s p. p;
       sleeps = λ m state up a p. p;
-      wakes = λ m l p. (or-within (statusCells (m .settings)) (m .«pm1_sts») wakBit (p .0) (wak-within (m .settings)), p .1);
+      wakes = λ source m l p. (or-within (statusCells (m .settings)) (m .«pm1_sts») wakBit (p .0) (wak-within (m .settings)), p .1);
       restarts = λ m f p. (zero-within (statusCells (m .settings)), zero-within (enableCells (m .settings)));
       presses = λ m f p. p;
       releases = λ m p. p;
@@ -109,7 +109,7 @@ sleep-keeps =
       controls = λ m bm-rld gbl-rls a b armed up la lb nb na p. (p .0, armed-written m armed up na (p .1));
       arbitrates = λ m arb-dis s p. p;
       sleeps = λ m state up a p. (a, refl);
-      wakes = λ m l p. (refl, refl);
+      wakes = λ source m l p. (refl, refl);
       restarts = λ m f p. (refl, refl);
       presses = λ m f p. p;
       releases = λ m p. p;
@@ -184,7 +184,7 @@ button-keeps =
       controls = λ m bm-rld gbl-rls a b armed up la lb nb na p. p;
       arbitrates = λ m arb-dis s p. p;
       sleeps = λ m state up a p. (p .0, (p .1 .0, λ o n. p .1 .1 o (awake-not-5 m up)));
-      wakes = λ m l p. (p .0, (p .1 .0, λ o n. p .1 .1 o (light-not-5 (m .state) l)));
+      wakes = λ source m l p. (p .0, (p .1 .0, λ o n. p .1 .1 o (light-not-5 (m .state) l)));
       restarts = λ m f p. (f, (lit≤ tt, λ o n. lit< tt));
       presses = λ m f p. (f, (lit≤ tt, λ o n. lit< tt));
       releases = λ m p. (refl, p .1);
@@ -194,7 +194,7 @@ button-keeps =
 
 -- ---- the counter
 
-abbrev Counter : Machine → Type 0
+abbrev pub Counter : Machine → Type 0
 Counter m = counterLegal m ≡ true
 
 counter-below : (k counter n : ℕ) → counter < 2 ^ k → counterAfter k counter n < 2 ^ k
@@ -211,7 +211,7 @@ counter-ticked m n p =
     let k = counterBits (wideTimer (m .settings)) in
     lt-ltb _ (2 ^ k) (counter-below k (m .counter) _ (ltb-true (m .counter) (2 ^ k) p))
 
-counter-keeps : Keeps Counter
+pub counter-keeps : Keeps Counter
 unfolding counterLegal generalRaised
 counter-keeps =
     record {
@@ -226,7 +226,7 @@ counter-keeps =
       controls = λ m bm-rld gbl-rls a b armed up la lb nb na p. p;
       arbitrates = λ m arb-dis s p. p;
       sleeps = λ m state up a p. p;
-      wakes = λ m l p. p;
+      wakes = λ source m l p. p;
       restarts = λ m f p. p;
       presses = λ m f p. p;
       releases = λ m p. p;
@@ -265,7 +265,7 @@ commands-keep =
       controls = λ m bm-rld gbl-rls a b armed up la lb nb na p. p;
       arbitrates = λ m arb-dis s p. p;
       sleeps = λ m state up a p. p;
-      wakes = λ m l p. p;
+      wakes = λ source m l p. p;
       restarts = λ m f p. (only-of (eqb (m .settings .«smi_cmd») 0) _ (λ e. e), refl);
       presses = λ m f p. p;
       releases = λ m p. p;
@@ -306,7 +306,7 @@ control-keeps =
       controls = λ m bm-rld gbl-rls a b armed up la lb nb na p. (typ-b-written m b nb (p .0), typs-written m a b la lb (p .1), p .2);
       arbitrates = λ m arb-dis s p. (p .0, p .1, only-of arb-dis _ (λ e. s));
       sleeps = λ m state up a p. p;
-      wakes = λ m l p. p;
+      wakes = λ source m l p. p;
       restarts = λ m f p. (or-true (not (not (hasPm1bCnt (m .settings)))), refl, refl);
       presses = λ m f p. p;
       releases = λ m p. p;
@@ -377,7 +377,7 @@ gpe-keeps =
       controls = λ m bm-rld gbl-rls a b armed up la lb nb na p. p;
       arbitrates = λ m arb-dis s p. p;
       sleeps = λ m state up a p. p;
-      wakes = λ m l p. p;
+      wakes = λ source m l p. p;
       restarts = λ m f p. (p .0, no-bytes _, no-bytes _, no-bytes _, no-bytes _);
       presses = λ m f p. p;
       releases = λ m p. p;

@@ -1,10 +1,13 @@
 pub mod LinesExactly
 pub mod Ticks
 pub mod Steps
-pub mod Raises
-pub mod Sized
 pub mod Fitted
 pub mod Kept
+pub mod Settings
+pub mod EventBits
+pub mod Raises
+pub mod Sized
 pub mod Bytes
 pub mod Legal
+pub mod Readings
 pub mod Wakes

@@ -1,7 +1,7 @@
 -- The status bits after a step: those that it does not clear, and those that it raises. Each rule says so by its cases; where one step
 -- does both, it clears first, or the two have no bit in common.
 -- Assumes nothing.
-use mathlib.Core.Bool.{Bool, true, false, not, cond, _&&_, _||_, Bool·beq}
+use mathlib.Core.Bool.{Bool, true, false, not, cond, _&&_, _||_, Bool·beq, and-false}
 use mathlib.Core.List.{List}
 use mathlib.Core.Path.{_≡_, refl, sym, ap, _∙_}
 use Prim.Native.Nat.{ℕ, zero, suc, _*_, _-_, _/_, _%_, _^_, _<_, _≤_}
@@ -23,13 +23,15 @@ use Rattle.platform.specs.declared.block.Block.{Block}
 use Rattle.platform.specs.declared.settings.Settings.{Settings}
 use Rattle.machine.specs.PowerOn.{gpeBytes}
 use Rattle.machine.specs.declared.Machine.{Machine}
+use Rattle.machine.specs.declared.sleeping.WakeSource.{WakeSource}
+use Rattle.machine.specs.declared.sleeping.WakeSource.the-variants as source
 use Rattle.model.specs.Answer.{firstApplying}
 use Rattle.model.specs.Bus.{completes, namedState, controlled, controlWritten, gpeWritten, writeOf}
-use Rattle.machine.specs.Cells.{tmrBit, bmBit, gblBit, pwrbtnBit, slpbtnBit, rtcBit, pciexpWakeBit, wakBit, hasBit, laneAt, placed, covered, statusIn, inStatus, onesIn, statusAfter, gpeSts, inGpeStatus, gpeStsAfter}
-use Rattle.model.specs.Events.{fits, raised, inS5, pressOf, signalWakes, signalOf, pcieWakeOf, inGpe0, inGpe1, numberIn, withBit, generalRaised, generalEnabled, generalOf, clockAfter, tmrRaised, timed, ticksOf, eventOf}
+use Rattle.machine.specs.Cells.{tmrBit, pwrbtnBit, wakBit, hasBit, laneAt, oneByte, placed, covered, clearable, inStatus, onesIn, statusAfter, gpeSts, inGpeStatus, gpeStsAfter}
+use Rattle.model.specs.Events.{StatusBit, pm1, gpe, eventBit, pm1Mask, sourceOf, eventMask, eventSource, fits, raised, inS5, pressOf, signalWakes, signalOf, pcieWakes, pcieWakeOf, inGpe0, inGpe1, numberIn, withBit, generalRaised, generalEnabled, generalOf, clockAfter, tmrRaised, timed, ticksOf, eventOf}
 use Rattle.machine.specs.Fields.{withTime, enter}
 use Rattle.machine.specs.Lines.{awake}
-use Rattle.model.specs.Raises.{Change, unchanged, clearing, raising, bitsIf, wakIf, pressChange, signalChange, pcieWakeChange, ticksChange, eventChange, wakesAtOnce, writeChange, ruleChange, ifAccepted, raises, clears, liesIn, generalBit, gpeEventChange, gpeOnes, gpeRuleChange, gpeRaises, gpeClears}
+use Rattle.model.specs.Raises.{Change, unchanged, clearing, raising, bitsIf, wakIf, pressChange, signalChange, pcieWakeChange, ticksChange, eventChange, wakesAtOnce, writeChange, ruleChange, ifAccepted, raises, clears, liesIn, gpeMask, isPress, gpeEventChange, gpeOnes, gpeRuleChange, gpeRaises, gpeClears}
 use Rattle.machine.specs.Sleep.{isSleeping, pending, woken, wokenIf, completed, restarted, overridden}
 use Rattle.model.specs.Step.{registerOf, offsetOf, doneOf, answerTo, accepted, after}
 use Rattle.model.specs.declared.Answer.the-variants as answer
@@ -39,6 +41,7 @@ use Rattle.model.specs.declared.Register.{Register}
 use Rattle.model.specs.declared.Register.the-variants as register
 use Rattle.model.specs.declared.Step.{Step}
 use Rattle.model.specs.declared.Step.the-variants as step
+use Rattle.model.proofs.EventBits.{event-cases}
 use Rattle.model.proofs.Ticks.{ticks-at-once}
 
 -- ---- changes
@@ -89,10 +92,10 @@ s5-not-light : (m : Machine) → inS5 m ≡ true → isSleeping (m .state) ≡ f
 unfolding inS5 isSleeping
 s5-not-light m e = rw (eqb-true (m .state) 5 e) refl
 
-woken-status : (test : Bool) (m : Machine) → wokenIf test m .«pm1_sts» ≡ bitOr (m .«pm1_sts») (wakIf m test)
-woken-status test m = go (isSleeping (m .state) && test)
+woken-status : (by : WakeSource) (test : Bool) (m : Machine) → wokenIf by test m .«pm1_sts» ≡ bitOr (m .«pm1_sts») (wakIf m test)
+woken-status by test m = go (isSleeping (m .state) && test)
   where
-    go : (t : Bool) → cond t (woken m) m .«pm1_sts» ≡ bitOr (m .«pm1_sts») (bitsIf t wakBit)
+    go : (t : Bool) → cond t (woken by m) m .«pm1_sts» ≡ bitOr (m .«pm1_sts») (bitsIf t wakBit)
     go true = refl
     go false = sym (or-zero-r _)
 
@@ -128,23 +131,25 @@ module _ (m : Machine) (h : m .«pm1_sts» < 2 ^ 16) where
   unfolding pressOf pressChange
   press-law true e = rw (e, s5-not-light m e, and-zero-r) refl
   press-law false e =
-      rw e (ap (λ (x : ℕ). bitOr x pwrbtnBit) (woken-status true m) ∙ raised-twice 16 (m .«pm1_sts») (wakIf m true) pwrbtnBit h)
+      rw e (ap (λ (x : ℕ). bitOr x pwrbtnBit) (woken-status (eventSource event.Press) true m) ∙ raised-twice 16 (m .«pm1_sts») (wakIf m true) pwrbtnBit h)
 
-  signal-law : (bit : ℕ) (b : Bool) → inS5 m ≡ b → Law (signalOf m bit) (signalChange m bit)
+  signal-law : (bit : StatusBit) (b : Bool) → inS5 m ≡ b → Law (signalOf m bit) (signalChange m (pm1Mask bit))
   unfolding signalOf signalChange
   signal-law bit true e = rw e nothing
-  signal-law bit false e = rw e (woken-status (signalWakes m bit) (raised m bit) ∙ raised-twice 16 (m .«pm1_sts») bit (wakIf m (signalWakes m bit)) h)
+  signal-law bit false e =
+      let wakes = signalWakes m (pm1Mask bit) in
+      rw e (woken-status (sourceOf bit) wakes (raised m (pm1Mask bit)) ∙ raised-twice 16 (m .«pm1_sts») (pm1Mask bit) (wakIf m wakes) h)
 
-  pcie-wake-law : (l d : Bool) → isSleeping (m .state) ≡ l → hasBit (m .«pm1_en») pciexpWakeBit ≡ d → Law (pcieWakeOf m) (pcieWakeChange m)
+  pcie-wake-law : (l d : Bool) → isSleeping (m .state) ≡ l → hasBit (m .«pm1_en») (eventMask event.PcieWake) ≡ d → Law (pcieWakeOf m) (pcieWakeChange m)
   unfolding pcieWakeOf pcieWakeChange
-  pcie-wake-law true false p q = rw (p, q) (raised-twice 16 (m .«pm1_sts») pciexpWakeBit wakBit h)
+  pcie-wake-law true false p q = rw (p, q) (raised-twice 16 (m .«pm1_sts») (eventMask event.PcieWake) wakBit h)
   pcie-wake-law true true p q = rw (p, q) nothing
   pcie-wake-law false d p q = rw p nothing
 
   general-law : (k : ℕ) (b : Bool) → inS5 m ≡ b → Law (generalOf m k) (raising (wakIf m (generalEnabled m k)))
   unfolding generalOf generalRaised
   general-law k true e = rw (e, s5-not-light m e) nothing
-  general-law k false e = rw e (woken-status (generalEnabled m k) (generalRaised m k) ∙ only-raised 16 (m .«pm1_sts») _ h)
+  general-law k false e = rw e (woken-status (eventSource (event.General k)) (generalEnabled m k) (generalRaised m k) ∙ only-raised 16 (m .«pm1_sts») _ h)
 
   ticks-law : (n : ℕ) (a o : Bool) → awake m ≡ a → clockAfter m n .off ≡ o → Law (cond a (timed m (clockAfter m n)) m) (ticksChange m n)
   unfolding timed ticksChange
@@ -158,11 +163,11 @@ module _ (m : Machine) (h : m .«pm1_sts» < 2 ^ 16) where
   unfolding eventOf eventChange
   event-law event.Press = press-law (inS5 m) refl
   event-law event.Release = nothing
-  event-law event.SleepPress = signal-law slpbtnBit (inS5 m) refl
-  event-law event.Alarm = signal-law rtcBit (inS5 m) refl
-  event-law event.PcieWake = pcie-wake-law (isSleeping (m .state)) (hasBit (m .«pm1_en») pciexpWakeBit) refl refl
-  event-law event.BusMaster = only-raised 16 (m .«pm1_sts») bmBit h
-  event-law event.Unlock = only-raised 16 (m .«pm1_sts») gblBit h
+  event-law event.SleepPress = signal-law (eventBit event.SleepPress) (inS5 m) refl
+  event-law event.Alarm = signal-law (eventBit event.Alarm) (inS5 m) refl
+  event-law event.PcieWake = pcie-wake-law (isSleeping (m .state)) (hasBit (m .«pm1_en») (eventMask event.PcieWake)) refl refl
+  event-law event.BusMaster = only-raised 16 (m .«pm1_sts») (eventMask event.BusMaster) h
+  event-law event.Unlock = only-raised 16 (m .«pm1_sts») (eventMask event.Unlock) h
   event-law (event.General k) = general-law k (inS5 m) refl
   event-law (event.Ticks n) = ap (λ x. x .«pm1_sts») (ticks-at-once n m) ∙ ticks-law n (awake m) (clockAfter m n .off) refl refl
 
@@ -178,7 +183,7 @@ module _ (m : Machine) (h : m .«pm1_sts» < 2 ^ 16) where
     unfolding completed wakesAtOnce pending
     control-law b true e =
         let state = namedState m b width offset written in
-        rw e (woken-status (pending m state) (enter (controlled m b width offset written) state) ∙ only-raised 16 (m .«pm1_sts») _ h)
+        rw e (woken-status source.NotKnown (pending m state) (enter (controlled m b width offset written) state) ∙ only-raised 16 (m .«pm1_sts») _ h)
     control-law b false e = rw e nothing
 
     write-law : (r : Register) → Law (writeOf m r width offset written) (writeChange m r width offset written)
@@ -213,7 +218,7 @@ status-law m s h = go (accepted (answerTo m s))
 
 -- what an access covers lies in the register
 covered-lt : (mask width offset : ℕ) → bitAnd mask (covered width offset) < 2 ^ 16
-covered-lt mask width offset = go (eqb width 1)
+covered-lt mask width offset = go (oneByte width offset)
   where
     go : (t : Bool) → bitAnd mask (cond t (lane (laneAt offset) 255) (2 ^ 16 - 1)) < 2 ^ 16
     go true = laneMask-lt 16 (offset % 2) mask (omega arith)
@@ -228,12 +233,12 @@ module _ (m : Machine) where
   unfolding eventChange pressChange pcieWakeChange ticksChange
   event-fits event.Press = (bits-if-lt 16 (inS5 m) (2 ^ 16 - 1) (omega arith), or-lt 16 (wakIf m true) pwrbtnBit (wak-lt m true) (omega arith))
   event-fits event.Release = unchanged-fits 16
-  event-fits event.SleepPress = signal-fits slpbtnBit (omega arith)
-  event-fits event.Alarm = signal-fits rtcBit (omega arith)
+  event-fits event.SleepPress = signal-fits (eventMask event.SleepPress) (omega arith)
+  event-fits event.Alarm = signal-fits (eventMask event.Alarm) (omega arith)
   event-fits event.PcieWake =
-      raising-fits 16 _ (bits-if-lt 16 (isSleeping (m .state) && not (hasBit (m .«pm1_en») pciexpWakeBit)) (bitOr pciexpWakeBit wakBit) (omega arith))
-  event-fits event.BusMaster = raising-fits 16 bmBit (omega arith)
-  event-fits event.Unlock = raising-fits 16 gblBit (omega arith)
+      raising-fits 16 _ (bits-if-lt 16 (pcieWakes m) (bitOr (eventMask event.PcieWake) wakBit) (omega arith))
+  event-fits event.BusMaster = raising-fits 16 (eventMask event.BusMaster) (omega arith)
+  event-fits event.Unlock = raising-fits 16 (eventMask event.Unlock) (omega arith)
   event-fits (event.General k) = raising-fits 16 _ (wak-lt m (generalEnabled m k))
   event-fits (event.Ticks n) =
       (bits-if-lt 16 (awake m && clockAfter m n .off) pwrbtnBit (omega arith), bits-if-lt 16 (awake m) _ (tmr-lt (m .settings) (clockAfter m n .turns)))
@@ -242,7 +247,7 @@ module _ (m : Machine) where
   unfolding writeChange
   write-fits register.SmiCmd width offset written = unchanged-fits 16
   write-fits (register.Pm1Evt b) width offset written =
-      clearing-fits 16 _ (bits-if-lt 16 (inStatus offset) _ (masked-lt 16 (placed offset written) _ (covered-lt (statusIn (m .settings) b) width offset)))
+      clearing-fits 16 _ (bits-if-lt 16 (inStatus offset) _ (masked-lt 16 (placed offset written) _ (covered-lt (clearable m b) width offset)))
   write-fits (register.Pm1Cnt b) width offset written = raising-fits 16 _ (bits-if-lt 16 (wakesAtOnce m b width offset written) wakBit (omega arith))
   write-fits register.Pm2Cnt width offset written = unchanged-fits 16
   write-fits register.PmTmr width offset written = unchanged-fits 16
@@ -311,18 +316,22 @@ module _ (b : Bool) where
   bytes-if true x y m p q = p
   bytes-if false x y m p q = q
 
-  woken-bytes : (test : Bool) (m : Machine) → gpeSts (wokenIf test m) b ≡ gpeSts m b
-  woken-bytes test m = bytes-if (isSleeping (m .state) && test) (woken m) m m refl refl
+  woken-bytes : (by : WakeSource) (test : Bool) (m : Machine) → gpeSts (wokenIf by test m) b ≡ gpeSts m b
+  woken-bytes by test m = bytes-if (isSleeping (m .state) && test) (woken by m) m m refl refl
 
-  signal-bytes : (m : Machine) (bit : ℕ) → gpeSts (signalOf m bit) b ≡ gpeSts m b
+  signal-bytes : (m : Machine) (bit : StatusBit) → gpeSts (signalOf m bit) b ≡ gpeSts m b
   unfolding signalOf
-  signal-bytes m bit = bytes-if (inS5 m) m (wokenIf (signalWakes m bit) (raised m bit)) m refl (woken-bytes (signalWakes m bit) (raised m bit))
+  signal-bytes m bit =
+      let set = raised m (pm1Mask bit) in
+      let wakes = signalWakes m (pm1Mask bit) in
+      bytes-if (inS5 m) m (wokenIf (sourceOf bit) wakes set) m refl (woken-bytes (sourceOf bit) wakes set)
 
   pcie-wake-bytes : (m : Machine) → gpeSts (pcieWakeOf m) b ≡ gpeSts m b
   unfolding pcieWakeOf
   pcie-wake-bytes m =
-      bytes-if (isSleeping (m .state) && not (hasBit (m .«pm1_en») pciexpWakeBit)) (wokenIf true (raised m pciexpWakeBit)) m m
-      (woken-bytes true (raised m pciexpWakeBit)) refl
+      let by = eventSource event.PcieWake in
+      let set = raised m (eventMask event.PcieWake) in
+      bytes-if (pcieWakes m) (wokenIf by true set) m m (woken-bytes by true set) refl
 
   timed-bytes : (m : Machine) (t : Clock) → gpeSts (timed m t) b ≡ gpeSts m b
   unfolding timed
@@ -339,7 +348,7 @@ module _ (b : Bool) where
   control-bytes m c width offset written =
       let x = controlled m c width offset written in
       let state = namedState m c width offset written in
-      bytes-if (completes m c width offset written) (completed x state) x m (woken-bytes (pending x state) (enter x state)) refl
+      bytes-if (completes m c width offset written) (completed x state) x m (woken-bytes source.NotKnown (pending x state) (enter x state)) refl
 
 -- ---- a status byte after each rule
 
@@ -363,8 +372,8 @@ byte-untouched m b i h l e = ap (λ x. getD x i 0) e ∙ sym (none-raised (hasBy
 
 -- a general event raises its bit in its own block
 general-raised-byte : (m : Machine) (k : ℕ) (b : Bool) (i : ℕ) → getD (gpeSts m b) i 0 < 2 ^ 8 → (g : Bool) → inGpe0 (m .settings) k ≡ g
-    → ByteLaw m b i (gpeSts (generalRaised m k) b) (raising (bitsIf (liesIn (m .settings) k b i) (2 ^ (numberIn (m .settings) k % 8))))
-unfolding generalRaised liesIn
+    → ByteLaw m b i (gpeSts (generalRaised m k) b) (raising (bitsIf (liesIn (m .settings) (gpe k) b i) (gpeMask (m .settings) (gpe k))))
+unfolding generalRaised liesIn gpeMask
 general-raised-byte m k false i h true e = rw e (raised-byte (m .«gpe0_sts») k i h (eqb (k / 8) i) (hasByte m false i) refl refl)
 general-raised-byte m k true i h false e =
     let n = k - m .settings .«gpe1_base» in
@@ -398,32 +407,40 @@ module _ (m : Machine) (b : Bool) (i : ℕ) (h : getD (gpeSts m b) i 0 < 2 ^ 8) 
   same : (x : Machine) → gpeSts x b ≡ gpeSts m b → GpeLaw x unchanged
   same x e = byte-untouched m b i h (gpeSts x b) e
 
-  gpe-press-law : (t : Bool) → inS5 m ≡ t → GpeLaw (pressOf m) (clearing (bitsIf t (2 ^ 8 - 1)))
-  unfolding pressOf
+  -- an event that goes by a PM1 bit, other than a press, leaves the bytes alone
+  pm1-event-law : (e : Event) {j : ℕ} → eventBit e ≡ pm1 j → isPress e ≡ false → gpeSts (eventOf m e) b ≡ gpeSts m b
+      → GpeLaw (eventOf m e) (gpeEventChange m e b i)
+  unfolding gpeEventChange liesIn
+  pm1-event-law e p q kept = rw (p, q, and-false, and-false) (same (eventOf m e) kept)
+
+  gpe-press-law : (t : Bool) → inS5 m ≡ t → GpeLaw (pressOf m) (gpeEventChange m event.Press b i)
+  unfolding pressOf gpeEventChange liesIn
   gpe-press-law true e = rw (e, none-raised (hasByte m b i), and-zero-r) (go b)
     where
       go : (c : Bool) → getD (gpeSts (restarted m) c) i 0 ≡ 0
       go true = no-byte gpeBytes i
       go false = no-byte gpeBytes i
-  gpe-press-law false e = same (pressOf m) (rw e (woken-bytes b true m))
+  gpe-press-law false e = rw e (same (wokenIf (eventSource event.Press) true m) (woken-bytes b (eventSource event.Press) true m))
 
-  gpe-general-law : (k : ℕ) (t : Bool) → inS5 m ≡ t → GpeLaw (generalOf m k) (raising (generalBit m k b i))
-  unfolding generalOf generalBit
+  gpe-general-law : (k : ℕ) (t : Bool) → inS5 m ≡ t → GpeLaw (generalOf m k) (gpeEventChange m (event.General k) b i)
+  unfolding generalOf gpeEventChange
   gpe-general-law k true e = rw e (same m refl)
   gpe-general-law k false e =
-      rw e (ap (λ l. getD l i 0) (woken-bytes b (generalEnabled m k) (generalRaised m k)) ∙ general-raised-byte m k b i h (inGpe0 (m .settings) k) refl)
+      rw e
+      (ap (λ l. getD l i 0) (woken-bytes b (eventSource (event.General k)) (generalEnabled m k) (generalRaised m k))
+      ∙ general-raised-byte m k b i h (inGpe0 (m .settings) k) refl)
 
   gpe-event-law : (e : Event) → GpeLaw (eventOf m e) (gpeEventChange m e b i)
-  unfolding eventOf gpeEventChange
+  unfolding eventOf
   gpe-event-law event.Press = gpe-press-law (inS5 m) refl
-  gpe-event-law event.Release = same m refl
-  gpe-event-law event.SleepPress = same (signalOf m slpbtnBit) (signal-bytes b m slpbtnBit)
-  gpe-event-law event.Alarm = same (signalOf m rtcBit) (signal-bytes b m rtcBit)
-  gpe-event-law event.PcieWake = same (pcieWakeOf m) (pcie-wake-bytes b m)
-  gpe-event-law event.BusMaster = same m refl
-  gpe-event-law event.Unlock = same m refl
+  gpe-event-law event.Release = pm1-event-law event.Release refl refl refl
+  gpe-event-law event.SleepPress = pm1-event-law event.SleepPress refl refl (signal-bytes b m (eventBit event.SleepPress))
+  gpe-event-law event.Alarm = pm1-event-law event.Alarm refl refl (signal-bytes b m (eventBit event.Alarm))
+  gpe-event-law event.PcieWake = pm1-event-law event.PcieWake refl refl (pcie-wake-bytes b m)
+  gpe-event-law event.BusMaster = pm1-event-law event.BusMaster refl refl refl
+  gpe-event-law event.Unlock = pm1-event-law event.Unlock refl refl refl
   gpe-event-law (event.General k) = gpe-general-law k (inS5 m) refl
-  gpe-event-law (event.Ticks n) = same (ticksOf n m) (ticks-bytes b n m)
+  gpe-event-law (event.Ticks n) = pm1-event-law (event.Ticks n) refl refl (ticks-bytes b n m)
 
   gpe-write-law : (r : Register) (width offset written : ℕ) → GpeLaw (writeOf m r width offset written) (clearing (gpeOnes m r offset written b i))
   unfolding writeOf gpeOnes
@@ -461,21 +478,17 @@ gpe-status-law m s b i l h = gpe-any-law m b i h s ∙ rw (lt-ltb i (length (gpe
 -- ---- bounds
 
 module _ (m : Machine) (b : Bool) (i : ℕ) where
-  general-bit-lt : (k : ℕ) → generalBit m k b i < 2 ^ 8
-  unfolding generalBit
-  general-bit-lt k = bits-if-lt 8 (not (inS5 m) && liesIn (m .settings) k b i) (2 ^ (numberIn (m .settings) k % 8)) (pow-lt {j = 8} (omega arith))
+  gpe-mask-lt : (s : Settings) (bit : StatusBit) → gpeMask s bit < 2 ^ 8
+  unfolding gpeMask
+  gpe-mask-lt s (pm1 j) = pow-pos 8
+  gpe-mask-lt s (gpe k) = pow-lt {j = 8} (omega arith)
 
   gpe-event-fits : (e : Event) → Fits 8 (gpeEventChange m e b i)
   unfolding gpeEventChange
-  gpe-event-fits event.Press = clearing-fits 8 _ (bits-if-lt 8 (inS5 m) (2 ^ 8 - 1) (omega arith))
-  gpe-event-fits event.Release = unchanged-fits 8
-  gpe-event-fits event.SleepPress = unchanged-fits 8
-  gpe-event-fits event.Alarm = unchanged-fits 8
-  gpe-event-fits event.PcieWake = unchanged-fits 8
-  gpe-event-fits event.BusMaster = unchanged-fits 8
-  gpe-event-fits event.Unlock = unchanged-fits 8
-  gpe-event-fits (event.General k) = raising-fits 8 _ (general-bit-lt k)
-  gpe-event-fits (event.Ticks n) = unchanged-fits 8
+  gpe-event-fits e = (
+    bits-if-lt 8 (inS5 m && isPress e) (2 ^ 8 - 1) (omega arith),
+    bits-if-lt 8 (not (inS5 m) && liesIn (m .settings) (eventBit e) b i) _ (gpe-mask-lt (m .settings) (eventBit e)),
+  )
 
   gpe-ones-lt : (r : Register) (offset written : ℕ) → gpeOnes m r offset written b i < 2 ^ 8
   unfolding gpeOnes
@@ -541,7 +554,7 @@ general-accepted m k = go (inGpe0 (m .settings) k || inGpe1 (m .settings) k)
     go false = refl
 
 none-lies : (s : Settings) (k : ℕ) (b : Bool) (i : ℕ) → eventCount (gpeBlock s b) ≤ 8 * i → (g o : Bool) → inGpe0 s k ≡ g → inGpe1 s k ≡ o
-    → ((g || o) && liesIn s k b i) ≡ false
+    → ((g || o) && liesIn s (gpe k) b i) ≡ false
 unfolding liesIn
 none-lies s k false i r true o p q = rw p (event-byte k i (eventCount (s .gpe0)) (in-gpe0-lt s k p) r)
 none-lies s k true i r true o p q = rw p refl
@@ -549,18 +562,10 @@ none-lies s k false i r false true p q = rw p refl
 none-lies s k true i r false true p q = rw p (event-byte (k - s .«gpe1_base») i (eventCount (s .gpe1)) (in-gpe1-lt s k q) r)
 none-lies s k b i r false false p q = refl
 
-no-bits : (t n l : Bool) (bits : ℕ) → (t && l) ≡ false → cond t (raising (bitsIf (n && l) bits)) unchanged .raised ≡ 0
-no-bits true true l bits e = rw e refl
-no-bits true false l bits e = refl
-no-bits false n l bits e = refl
-
-general-past : (m : Machine) (k : ℕ) (b : Bool) (i : ℕ) → eventCount (gpeBlock (m .settings) b) ≤ 8 * i
-    → ifAccepted m (step.Event (event.General k)) (raising (generalBit m k b i)) .raised ≡ 0
-unfolding generalBit
-general-past m k b i r =
-    rw (general-accepted m k)
-    (no-bits (inGpe0 (m .settings) k || inGpe1 (m .settings) k) (not (inS5 m)) (liesIn (m .settings) k b i) _
-    (none-lies (m .settings) k b i r (inGpe0 (m .settings) k) (inGpe1 (m .settings) k) refl refl))
+no-bits : (t n l : Bool) (gone bits : ℕ) → (t && l) ≡ false → cond t (record { cleared = gone; raised = bitsIf (n && l) bits }) unchanged .raised ≡ 0
+no-bits true true l gone bits e = rw e refl
+no-bits true false l gone bits e = refl
+no-bits false n l gone bits e = refl
 
 -- a change that raises nothing
 none-past : (m : Machine) (s : Step) (bits : ℕ) → ifAccepted m s (clearing bits) .raised ≡ 0
@@ -570,19 +575,24 @@ none-past m s bits = go (accepted (answerTo m s))
     go true = refl
     go false = refl
 
+event-past : (m : Machine) (b : Bool) (i : ℕ) → eventCount (gpeBlock (m .settings) b) ≤ 8 * i → (e : Event)
+    → ifAccepted m (step.Event e) (gpeEventChange m e b i) .raised ≡ 0
+unfolding gpeEventChange liesIn
+event-past m b i r =
+    event-cases (λ e. ifAccepted m (step.Event e) (gpeEventChange m e b i) .raised ≡ 0)
+    (λ e j p. no-bits (accepted (answerTo m (step.Event e))) (not (inS5 m)) _ _ _ (rw p (none (accepted (answerTo m (step.Event e))) j)))
+    (λ k. rw (general-accepted m k)
+    (no-bits (inGpe0 (m .settings) k || inGpe1 (m .settings) k) (not (inS5 m)) _ _ _
+    (none-lies (m .settings) k b i r (inGpe0 (m .settings) k) (inGpe1 (m .settings) k) refl refl)))
+  where
+    none : (t : Bool) (j : ℕ) → (t && liesIn (m .settings) (pm1 j) b i) ≡ false
+    none t j = and-false t
+
 pub gpe-raises-past : (m : Machine) (s : Step) (b : Bool) (i : ℕ) → eventCount (gpeBlock (m .settings) b) ≤ 8 * i → gpeRaises m s b i ≡ 0
-unfolding gpeRaises gpeRuleChange gpeEventChange
+unfolding gpeRaises gpeRuleChange
 gpe-raises-past m (step.Read a) b i r = none-past m (step.Read a) 0
 gpe-raises-past m (step.Write a written) b i r = none-past m (step.Write a written) _
-gpe-raises-past m (step.Event event.Press) b i r = none-past m (step.Event event.Press) _
-gpe-raises-past m (step.Event event.Release) b i r = none-past m (step.Event event.Release) 0
-gpe-raises-past m (step.Event event.SleepPress) b i r = none-past m (step.Event event.SleepPress) 0
-gpe-raises-past m (step.Event event.Alarm) b i r = none-past m (step.Event event.Alarm) 0
-gpe-raises-past m (step.Event event.PcieWake) b i r = none-past m (step.Event event.PcieWake) 0
-gpe-raises-past m (step.Event event.BusMaster) b i r = none-past m (step.Event event.BusMaster) 0
-gpe-raises-past m (step.Event event.Unlock) b i r = none-past m (step.Event event.Unlock) 0
-gpe-raises-past m (step.Event (event.General k)) b i r = general-past m k b i r
-gpe-raises-past m (step.Event (event.Ticks n)) b i r = none-past m (step.Event (event.Ticks n)) 0
+gpe-raises-past m (step.Event e) b i r = event-past m b i r e
 gpe-raises-past m step.Take b i r = none-past m step.Take 0
 gpe-raises-past m step.Drop b i r = none-past m step.Drop 0
 

@@ -2,9 +2,11 @@
 use mathlib.Core.Bool.{Bool, true, false, not, cond, _&&_, _||_}
 use Prim.Native.Nat.{ℕ, _/_, _%_, _^_}
 use lib.Dec.{eqb, ltb}
+use Rattle.clock.specs.Clock.{counterBits}
 use Rattle.sleep.specs.Pairs.{stateOf}
+use Rattle.platform.specs.Cells.{wideTimer}
 use Rattle.machine.specs.declared.Machine.{Machine}
-use Rattle.machine.specs.Cells.{shown, placed, eventRegister, statusAfter, enableAfter, controlIn, hasPm1bCnt, controlRegister, coversLow, coversHigh, writtenBit, gpeByte, gpeStsAfter, gpeEnAfter}
+use Rattle.machine.specs.Cells.{shown, placed, eventRegister, statusAfter, enableAfter, controlIn, hasPm1bCnt, controlShown, coversLow, coversHigh, writtenBit, gpeByte, gpeStsAfter, gpeEnAfter}
 use Rattle.machine.specs.Fields.{withEvent, withGpe, withControl, withCommand, withArbDis}
 use Rattle.machine.specs.Sleep.{completed}
 use Rattle.model.specs.declared.Register.{Register}
@@ -58,13 +60,17 @@ commandLost m register.PmTmr = false
 commandLost m (register.Gpe b) = false
 commandLost m register.Nowhere = false
 
+-- the counter, "32 bits if flag 8 is set, else 24"
+abbrev pub timerRegister : Machine → ℕ
+timerRegister m = m .counter % 2 ^ counterBits (wideTimer (m .settings))
+
 -- what a read gives; "SMI_CMD reads zero"
 unfoldable pub readOf : Machine → Register → ℕ → ℕ → ℕ
 readOf m register.SmiCmd width offset = 0
 readOf m (register.Pm1Evt b) width offset = shown width offset (eventRegister m b offset)
-readOf m (register.Pm1Cnt b) width offset = shown width offset (controlRegister m b)
+readOf m (register.Pm1Cnt b) width offset = controlShown m b width offset
 readOf m register.Pm2Cnt width offset = cond (m .«arb_dis») 1 0
-readOf m register.PmTmr width offset = m .counter
+readOf m register.PmTmr width offset = timerRegister m
 readOf m (register.Gpe b) width offset = gpeByte m b offset
 readOf m register.Nowhere width offset = 0
 
@@ -108,19 +114,19 @@ namesNone m (register.Gpe b) width offset written = false
 namesNone m register.Nowhere width offset written = false
 
 -- "1 BM_RLD", in its home
-unfoldable pub bmRldAfter : Machine → Bool → ℕ → ℕ → ℕ → Bool
-bmRldAfter m b width offset written =
-    cond (coversLow width offset && controlIn (m .settings) b 1) (writtenBit offset written 1) (m .«bm_rld»)
+unfoldable pub bmRldAfter : Machine → Bool → ℕ → ℕ → Bool
+bmRldAfter m b offset written =
+    cond (coversLow offset && controlIn (m .settings) b 1) (writtenBit offset written 1) (m .«bm_rld»)
 
 -- "2 GBL_RLS (writing one raises the release flag ..)", in its home
-unfoldable pub gblRlsAfter : Machine → Bool → ℕ → ℕ → ℕ → Bool
-gblRlsAfter m b width offset written =
-    m .«gbl_rls» || (coversLow width offset && (controlIn (m .settings) b 2 && writtenBit offset written 2))
+unfoldable pub gblRlsAfter : Machine → Bool → ℕ → ℕ → Bool
+gblRlsAfter m b offset written =
+    m .«gbl_rls» || (coversLow offset && (controlIn (m .settings) b 2 && writtenBit offset written 2))
 
 -- the cells after a control write, before any sleep
 abbrev pub controlled : Machine → Bool → ℕ → ℕ → ℕ → Machine
 controlled m b width offset written =
-    withControl m (bmRldAfter m b width offset written) (gblRlsAfter m b width offset written)
+    withControl m (bmRldAfter m b offset written) (gblRlsAfter m b offset written)
     (typAfter m b false width offset written) (typAfter m b true width offset written) (armedAfter m b width offset written)
 
 -- .. and with the sleep that it completes

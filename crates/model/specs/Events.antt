@@ -11,16 +11,57 @@ use Rattle.platform.specs.Cells.{statusCells, wideTimer}
 use Rattle.platform.specs.Rules.{eventCount}
 use Rattle.platform.specs.declared.settings.Settings.{Settings}
 use Rattle.machine.specs.declared.Machine.{Machine}
-use Rattle.machine.specs.Cells.{tmrBit, bmBit, gblBit, pwrbtnBit, slpbtnBit, rtcBit, pciexpWakeBit, hasBit}
+use Rattle.machine.specs.Cells.{tmrBit, hasBit}
 use Rattle.machine.specs.Fields.{withEvent, withGpe, withButton, withTime}
 use Rattle.machine.specs.Lines.{awake}
 use Rattle.machine.specs.Sleep.{isSleeping, wakeBits, wokenIf, restarted, overridden}
+use Rattle.machine.specs.declared.sleeping.WakeSource.{WakeSource}
+use Rattle.machine.specs.declared.sleeping.WakeSource.the-variants as source
 use Rattle.model.specs.declared.Event.{Event}
 use Rattle.model.specs.declared.Event.the-variants as event
+
+-- ---- status bits
+
+-- a status bit: of PM1, by its number, or a general event's, by the event's
+pub data StatusBit : Type 0 where
+  pm1 : ℕ → StatusBit
+  gpe : ℕ → StatusBit
+
+-- "press and release go by bit 8, sleep press 9, alarm 10, PCIe wake 14, bus-master 4, unlock 5, ticks 0"; a general event goes by its own
+abbrev pub eventBit : Event → StatusBit
+eventBit event.Press = pm1 8
+eventBit event.Release = pm1 8
+eventBit event.SleepPress = pm1 9
+eventBit event.Alarm = pm1 10
+eventBit event.PcieWake = pm1 14
+eventBit event.BusMaster = pm1 4
+eventBit event.Unlock = pm1 5
+eventBit (event.General k) = gpe k
+eventBit (event.Ticks n) = pm1 0
+
+-- a PM1 bit at its place in the register; a general event's has none there
+abbrev pub pm1Mask : StatusBit → ℕ
+pm1Mask (pm1 i) = 2 ^ i
+pm1Mask (gpe k) = 0
+
+-- the bit as what wakes the machine
+abbrev pub sourceOf : StatusBit → WakeSource
+sourceOf (pm1 i) = source.Pm1 i
+sourceOf (gpe k) = source.Gpe k
+
+abbrev pub eventMask : Event → ℕ
+eventMask e = pm1Mask (eventBit e)
+
+abbrev pub eventSource : Event → WakeSource
+eventSource e = sourceOf (eventBit e)
 
 -- the bit is fitted
 abbrev pub fits : Settings → ℕ → Bool
 fits s bit = hasBit (statusCells s) bit
+
+-- what the event belongs to is fitted
+abbrev pub fitted : Settings → Event → Bool
+fitted s e = fits s (eventMask e)
 
 -- "set their bits"
 abbrev pub raised : Machine → ℕ → Machine
@@ -33,7 +74,7 @@ inS5 m = eqb (m .state) 5
 
 -- "Press sets PWRBTN, hold zero." "a press always" wakes; "From S5 only a press wakes: .. then PWRBTN set"
 unfoldable pub pressOf : Machine → Machine
-pressOf m = withButton (raised (cond (inS5 m) (restarted m) (wokenIf true m)) pwrbtnBit) true 0
+pressOf m = withButton (raised (cond (inS5 m) (restarted m) (wokenIf (eventSource event.Press) true m)) (eventMask event.Press)) true 0
 
 -- "Release lets the button up and keeps hold."
 abbrev pub releaseOf : Machine → Machine
@@ -44,16 +85,16 @@ abbrev pub signalWakes : Machine → ℕ → Bool
 signalWakes m bit = hasBit (m .«pm1_en») bit && hasBit (wakeBits (m .settings) (m .state)) bit
 
 -- "Sleep press, alarm .. set their bits"; "In S5 .. other accepted events change nothing"
-unfoldable pub signalOf : Machine → ℕ → Machine
-signalOf m bit = cond (inS5 m) m (wokenIf (signalWakes m bit) (raised m bit))
+unfoldable pub signalOf : Machine → StatusBit → Machine
+signalOf m bit = cond (inS5 m) m (wokenIf (sourceOf bit) (signalWakes m (pm1Mask bit)) (raised m (pm1Mask bit)))
 
 -- "PCIe wake if its disable is clear"; it "does nothing in S0"
 abbrev pub pcieWakes : Machine → Bool
-pcieWakes m = isSleeping (m .state) && not (hasBit (m .«pm1_en») pciexpWakeBit)
+pcieWakes m = isSleeping (m .state) && not (hasBit (m .«pm1_en») (eventMask event.PcieWake))
 
 -- ".. and only then is its bit set"
 unfoldable pub pcieWakeOf : Machine → Machine
-pcieWakeOf m = cond (pcieWakes m) (wokenIf true (raised m pciexpWakeBit)) m
+pcieWakeOf m = cond (pcieWakes m) (wokenIf (eventSource event.PcieWake) true (raised m (eventMask event.PcieWake))) m
 
 -- ---- general events
 
@@ -92,7 +133,7 @@ generalEnabled m k = cond (inGpe0 (m .settings) k) (isEnabled (m .«gpe0_en») k
 
 -- "In S5 .. other accepted events change nothing"
 unfoldable pub generalOf : Machine → ℕ → Machine
-generalOf m k = cond (inS5 m) m (wokenIf (generalEnabled m k) (generalRaised m k))
+generalOf m k = cond (inS5 m) m (wokenIf (eventSource (event.General k)) (generalEnabled m k) (generalRaised m k))
 
 -- ---- ticks
 
@@ -131,10 +172,10 @@ ticksOf (suc n) m = ticksOf n (tickedOnce m)
 unfoldable pub eventOf : Machine → Event → Machine
 eventOf m event.Press = pressOf m
 eventOf m event.Release = releaseOf m
-eventOf m event.SleepPress = signalOf m slpbtnBit
-eventOf m event.Alarm = signalOf m rtcBit
+eventOf m event.SleepPress = signalOf m (eventBit event.SleepPress)
+eventOf m event.Alarm = signalOf m (eventBit event.Alarm)
 eventOf m event.PcieWake = pcieWakeOf m
-eventOf m event.BusMaster = raised m bmBit
-eventOf m event.Unlock = raised m gblBit
+eventOf m event.BusMaster = raised m (eventMask event.BusMaster)
+eventOf m event.Unlock = raised m (eventMask event.Unlock)
 eventOf m (event.General k) = generalOf m k
 eventOf m (event.Ticks n) = ticksOf n m

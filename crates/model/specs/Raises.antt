@@ -1,14 +1,14 @@
 -- What a step clears and raises of the status bits, told from the step and the machine before it. That the status after the step is
 -- what it does not clear, and what it raises, is `status-law` and `gpe-status-law` of `proofs/Raises.antt`.
-use mathlib.Core.Bool.{Bool, true, not, cond, _&&_, Bool·beq}
+use mathlib.Core.Bool.{Bool, true, false, not, cond, _&&_, Bool·beq}
 use Prim.Native.Nat.{ℕ, _-_, _/_, _%_, _^_}
 use lib.Bits.{bitAnd, bitOr}
 use lib.Dec.{eqb}
 use Rattle.platform.specs.declared.settings.Settings.{Settings}
 use Rattle.machine.specs.declared.Machine.{Machine}
 use Rattle.model.specs.Bus.{completes, namedState}
-use Rattle.machine.specs.Cells.{bmBit, gblBit, pwrbtnBit, slpbtnBit, rtcBit, pciexpWakeBit, wakBit, inStatus, onesIn, inGpeStatus}
-use Rattle.model.specs.Events.{inS5, signalWakes, pcieWakes, inGpe0, numberIn, generalEnabled, clockAfter, tmrRaised}
+use Rattle.machine.specs.Cells.{pwrbtnBit, wakBit, inStatus, onesIn, inGpeStatus}
+use Rattle.model.specs.Events.{StatusBit, pm1, gpe, eventBit, eventMask, inS5, signalWakes, pcieWakes, inGpe0, numberIn, generalEnabled, clockAfter, tmrRaised}
 use Rattle.machine.specs.Lines.{awake}
 use Rattle.machine.specs.Sleep.{isSleeping, pending}
 use Rattle.model.specs.Step.{registerOf, offsetOf, answerTo, accepted}
@@ -45,7 +45,7 @@ wakIf m test = bitsIf (isSleeping (m .state) && test) wakBit
 
 -- "Press sets PWRBTN"; "a press always" wakes; "From S5 .. all PM1 .. cells .. zero, then PWRBTN set; .. WAK not set"
 unfoldable pub pressChange : Machine → Change
-pressChange m = record { cleared = bitsIf (inS5 m) (2 ^ 16 - 1); raised = bitOr (wakIf m true) pwrbtnBit }
+pressChange m = record { cleared = bitsIf (inS5 m) (2 ^ 16 - 1); raised = bitOr (wakIf m true) (eventMask event.Press) }
 
 -- "Sleep press, alarm .. set their bits"; "In S5 .. other accepted events change nothing"
 unfoldable pub signalChange : Machine → ℕ → Change
@@ -53,7 +53,7 @@ signalChange m bit = raising (bitsIf (not (inS5 m)) (bitOr bit (wakIf m (signalW
 
 -- "PCIe wake if its disable is clear, and only then is its bit set"
 unfoldable pub pcieWakeChange : Machine → Change
-pcieWakeChange m = raising (bitsIf (pcieWakes m) (bitOr pciexpWakeBit wakBit))
+pcieWakeChange m = raising (bitsIf (pcieWakes m) (bitOr (eventMask event.PcieWake) wakBit))
 
 -- "in S0 only: .. TMR, if fitted, is set when its top bit changes", at one of the ticks that ran; the override "clears PWRBTN"
 unfoldable pub ticksChange : Machine → ℕ → Change
@@ -67,11 +67,11 @@ ticksChange m n =
 unfoldable pub eventChange : Machine → Event → Change
 eventChange m event.Press = pressChange m
 eventChange m event.Release = unchanged
-eventChange m event.SleepPress = signalChange m slpbtnBit
-eventChange m event.Alarm = signalChange m rtcBit
+eventChange m event.SleepPress = signalChange m (eventMask event.SleepPress)
+eventChange m event.Alarm = signalChange m (eventMask event.Alarm)
 eventChange m event.PcieWake = pcieWakeChange m
-eventChange m event.BusMaster = raising bmBit
-eventChange m event.Unlock = raising gblBit
+eventChange m event.BusMaster = raising (eventMask event.BusMaster)
+eventChange m event.Unlock = raising (eventMask event.Unlock)
 eventChange m (event.General k) = raising (wakIf m (generalEnabled m k))
 eventChange m (event.Ticks n) = ticksChange m n
 
@@ -113,25 +113,35 @@ clears m s = ifAccepted m s (ruleChange m s) .cleared
 
 -- ---- status byte i of GPE0, or with b of GPE1, by the step's rule
 
--- event k is GPE0's, or else GPE1's; its bit is in byte i of the block, eight events a byte
-unfoldable pub liesIn : Settings → ℕ → Bool → ℕ → Bool
-liesIn s k b i = cond (inGpe0 s k) (not b) b && eqb (numberIn s k / 8) i
+-- the bit is a general event's, of GPE0 or else of GPE1, and lies in byte i of the block, eight events a byte
+unfoldable pub liesIn : Settings → StatusBit → Bool → ℕ → Bool
+liesIn s (pm1 j) b i = false
+liesIn s (gpe k) b i = cond (inGpe0 s k) (not b) b && eqb (numberIn s k / 8) i
 
--- ".. general events set their bits"; "In S5 .. other accepted events change nothing"
-unfoldable pub generalBit : Machine → ℕ → Bool → ℕ → ℕ
-generalBit m k b i = bitsIf (not (inS5 m) && liesIn (m .settings) k b i) (2 ^ (numberIn (m .settings) k % 8))
+-- its place in that byte
+unfoldable pub gpeMask : Settings → StatusBit → ℕ
+gpeMask s (pm1 j) = 0
+gpeMask s (gpe k) = 2 ^ (numberIn s k % 8)
 
--- "From S5 only a press wakes: all .. GPE cells .. zero"
+-- the event is a press
+abbrev pub isPress : Event → Bool
+isPress event.Press = true
+isPress event.Release = false
+isPress event.SleepPress = false
+isPress event.Alarm = false
+isPress event.PcieWake = false
+isPress event.BusMaster = false
+isPress event.Unlock = false
+isPress (event.General k) = false
+isPress (event.Ticks n) = false
+
+-- "From S5 only a press wakes: all .. GPE cells .. zero"; "general events set their bits"; "In S5 .. other accepted events change nothing"
 unfoldable pub gpeEventChange : Machine → Event → Bool → ℕ → Change
-gpeEventChange m event.Press b i = clearing (bitsIf (inS5 m) (2 ^ 8 - 1))
-gpeEventChange m event.Release b i = unchanged
-gpeEventChange m event.SleepPress b i = unchanged
-gpeEventChange m event.Alarm b i = unchanged
-gpeEventChange m event.PcieWake b i = unchanged
-gpeEventChange m event.BusMaster b i = unchanged
-gpeEventChange m event.Unlock b i = unchanged
-gpeEventChange m (event.General k) b i = raising (generalBit m k b i)
-gpeEventChange m (event.Ticks n) b i = unchanged
+gpeEventChange m e b i =
+    record {
+      cleared = bitsIf (inS5 m && isPress e) (2 ^ 8 - 1);
+      raised = bitsIf (not (inS5 m) && liesIn (m .settings) (eventBit e) b i) (gpeMask (m .settings) (eventBit e));
+    }
 
 -- "GPE: status bytes, .. the same rules": the ones written to byte i of the block
 unfoldable pub gpeOnes : Machine → Register → ℕ → ℕ → Bool → ℕ → ℕ

@@ -6,8 +6,7 @@ use lib.Dec.{eqb}
 use Rattle.machine.specs.declared.Machine.{Machine}
 use Rattle.model.specs.Answer.{numberOf, Line, _if_, firstApplying}
 use Rattle.model.specs.Bus.{wrongWidth, dataTooWide, leadsNowhere, allowed, isTimer, commandLost, namesNone, readOf, writeOf}
-use Rattle.machine.specs.Cells.{pwrbtnBit, slpbtnBit, rtcBit, pciexpWakeBit}
-use Rattle.model.specs.Events.{fits, inGpe0, inGpe1, eventOf}
+use Rattle.model.specs.Events.{fitted, inGpe0, inGpe1, eventOf}
 use Rattle.model.specs.Firmware.{takeOf, dropOf}
 use Rattle.machine.specs.Lines.{awake}
 use Rattle.model.specs.Ports.{registerAt, offsetAt}
@@ -51,13 +50,17 @@ writeLines m r width offset written =
     answer.NoSleepState if namesNone m r width offset written ∷
     []
 
--- 28: "what a press, release, sleep press, alarm or PCIe wake belongs to is not fitted"; 29: "a general event number belongs to no block"; 30: "press while down, release while up"
+-- 28: "what a press, release, sleep press, alarm or PCIe wake belongs to is not fitted"
+abbrev pub unfitted : Machine → Event → Line
+unfitted m e = answer.NotFitted if not (fitted (m .settings) e)
+
+-- 28, then 30: "press while down, release while up"; 29: "a general event number belongs to no block"
 abbrev pub eventLines : Machine → Event → List Line
-eventLines m event.Press = answer.NotFitted if not (fits (m .settings) pwrbtnBit) ∷ answer.ButtonAlready if m .button ∷ []
-eventLines m event.Release = answer.NotFitted if not (fits (m .settings) pwrbtnBit) ∷ answer.ButtonAlready if not (m .button) ∷ []
-eventLines m event.SleepPress = answer.NotFitted if not (fits (m .settings) slpbtnBit) ∷ []
-eventLines m event.Alarm = answer.NotFitted if not (fits (m .settings) rtcBit) ∷ []
-eventLines m event.PcieWake = answer.NotFitted if not (fits (m .settings) pciexpWakeBit) ∷ []
+eventLines m event.Press = unfitted m event.Press ∷ answer.ButtonAlready if m .button ∷ []
+eventLines m event.Release = unfitted m event.Release ∷ answer.ButtonAlready if not (m .button) ∷ []
+eventLines m event.SleepPress = unfitted m event.SleepPress ∷ []
+eventLines m event.Alarm = unfitted m event.Alarm ∷ []
+eventLines m event.PcieWake = unfitted m event.PcieWake ∷ []
 eventLines m event.BusMaster = answer.Asleep if not (awake m) ∷ []
 eventLines m event.Unlock = answer.Asleep if not (awake m) ∷ []
 eventLines m (event.General k) = answer.NoSuchEvent if not (inGpe0 (m .settings) k || inGpe1 (m .settings) k) ∷ []

@@ -1,4 +1,4 @@
--- What lies beyond a number's bits, or beyond a list's end, is nothing; and the lane of an offset. Assumes nothing.
+-- What lies beyond a number's bits, or beyond a list's end, is nothing. Assumes nothing.
 use mathlib.Core.Path.{_≡_, refl, sym, _∙_}
 use mathlib.Core.Bool.{Bool, true, false}
 use mathlib.Core.List.{List, [], _∷_}
@@ -30,13 +30,3 @@ pub read-beyond : (bytes : List ℕ) (i : ℕ) → length bytes ≤ i → getD b
 read-beyond [] i h = refl
 read-beyond (x ∷ xs) zero h = absurd (not-suc-le-zero h)
 read-beyond (x ∷ xs) (suc i) h = read-beyond xs i (le-of-suc-le-suc h)
-
--- the lane of an offset: the high byte's at an odd one
-pub lane-of : (offset : ℕ) → laneOf (eqb (offset % 2) 1) ≡ offset % 2
-lane-of offset = go (eqb (offset % 2) 1) refl
-  where
-    go : (t : Bool) → eqb (offset % 2) 1 ≡ t → laneOf t ≡ offset % 2
-    go true e = sym (eqb-true (offset % 2) 1 e)
-    go false e =
-        let even : offset % 2 ≡ 1 → ⊥ = eqb-false (offset % 2) 1 e in
-        omega arith

@@ -19,6 +19,7 @@ ghost use Rattle.machine.specs.Cells.{
   placed,
   statusRegister,
   enableRegister,
+  clearable,
   statusCleared,
   enableTaken,
   controlIn,
@@ -58,39 +59,38 @@ fn enable_in(s: Settings, b: bool) -> u16
     platform::enable_cells(s) & homes_in(s.event_homes, b)
 }
 
-pub fn shown(width: u32, offset: u64, register: u32) -> u32
-    ensures { λ r. ⌜ r ≡ shown width offset register ⌝ }
+// What a read at a register's first byte shows: that byte, or with two bytes the register.
+pub fn read_low(width: u32, register: u32) -> u32
+    ensures { λ r. ⌜ r ≡ shown width 0 register ⌝ }
 {
-    let byte = (register >> (8 * (offset % 2))) % 256;
-    pick32(width == 1, byte, register)
+    pick32(width == 1, register % 256, register)
 }
 
-fn byte_bits(offset: u64) -> u16
-    ensures { λ r. ⌜ r ≡ placed offset 255 ⌝ }
+// What a read at its second byte shows.
+pub fn read_high(register: u32) -> u32
+    ensures { λ r. ⌜ r ≡ shown 1 1 register ⌝ }
 {
-    bits::at_lane(offset % 2 == 1, 255)
+    register / 256 % 256
 }
 
-fn covered(width: u32, offset: u64) -> u16
-    ensures { λ r. ⌜ r ≡ covered width offset ⌝ }
+// What a write at a register's first byte covers: that byte, or with two bytes the register.
+fn from_low(width: u32) -> u16
+    ensures { λ r. ⌜ r ≡ covered width 0 ⌝ }
 {
-    pick16(width == 1, byte_bits(offset), 0xffff)
+    pick16(width == 1, 0x00ff, 0xffff)
 }
 
-pub fn placed(offset: u64, written: u32) -> u64
-    ensures { λ r. ⌜ r ≡ placed offset written ⌝ }
+// The bits of what is written, at its place in the register, that lie in the mask.
+fn low_in(written: u32, mask: u16) -> u16
+    ensures { λ r. ⌜ r ≡ bitAnd (placed 0 written) mask ⌝ }
 {
-    if offset % 2 == 1 {
-        (written as u64) * 256
-    } else {
-        written as u64
-    }
+    (written & (mask as u32)) as u16
 }
 
-fn placed_in(offset: u64, written: u32, mask: u16) -> u16
-    ensures { λ r. ⌜ r ≡ bitAnd (placed offset written) mask ⌝ }
+fn high_in(written: u32, mask: u16) -> u16
+    ensures { λ r. ⌜ r ≡ bitAnd (placed 1 written) mask ⌝ }
 {
-    (placed(offset, written) & (mask as u64)) as u16
+    (((written as u64) * 256) & (mask as u64)) as u16
 }
 
 // What the block's status half, and its enable half, show.
@@ -108,22 +108,55 @@ pub fn enable_register(m: Machine, b: bool) -> u16
     m.pm1_en & enable_in(s, b)
 }
 
-// Writing one to a status bit clears it; writing zero keeps it.
-pub fn status_cleared(m: Machine, b: bool, width: u32, offset: u64, written: u32) -> u16
-    ensures { λ r. ⌜ r ≡ statusCleared m b width offset written ⌝ }
+// The status bits that a write to the block may clear.
+fn clearable(m: Machine, b: bool) -> u16
+    ensures { λ r. ⌜ r ≡ clearable m b ⌝ }
 {
     let s = m.settings;
-    let mask = status_in(s, b) & covered(width, offset);
-    bits::clear16(m.pm1_sts, placed_in(offset, written, mask), mask)
+    status_in(s, b)
 }
 
-// An enable bit takes the value written.
-pub fn enable_taken(m: Machine, b: bool, width: u32, offset: u64, written: u32) -> u16
-    ensures { λ r. ⌜ r ≡ enableTaken m b width offset written ⌝ }
+// Writing one to a status bit clears it; writing zero keeps it. At the status half's first byte, and at its second.
+pub fn status_low(m: Machine, b: bool, width: u32, written: u32) -> u16
+    ensures { λ r. ⌜ r ≡ statusCleared m b width 0 written ⌝ }
+{
+    let mask = clearable(m, b) & from_low(width);
+    bits::clear16(m.pm1_sts, low_in(written, mask), mask)
+}
+
+pub fn status_high(m: Machine, b: bool, written: u32) -> u16
+    ensures { λ r. ⌜ r ≡ statusCleared m b 1 1 written ⌝ }
+{
+    let mask = clearable(m, b) & 0xff00;
+    bits::clear16(m.pm1_sts, high_in(written, mask), mask)
+}
+
+// An enable bit takes the value written. At the enable half's first byte, and at its second.
+pub fn enable_low(m: Machine, b: bool, width: u32, written: u32) -> u16
+    ensures { λ r. ⌜ r ≡ enableTaken m b width 2 written ⌝ }
 {
     let s = m.settings;
-    let mask = enable_in(s, b) & covered(width, offset);
-    bits::take16(m.pm1_en, placed_in(offset, written, mask), mask)
+    let mask = enable_in(s, b) & from_low(width);
+    bits::take16(m.pm1_en, low_in(written, mask), mask)
+}
+
+pub fn enable_high(m: Machine, b: bool, written: u32) -> u16
+    ensures { λ r. ⌜ r ≡ enableTaken m b 1 3 written ⌝ }
+{
+    let s = m.settings;
+    let mask = enable_in(s, b) & 0xff00;
+    bits::take16(m.pm1_en, high_in(written, mask), mask)
+}
+
+// What is written, at its place in a control register.
+pub fn placed(offset: u64, written: u32) -> u64
+    ensures { λ r. ⌜ r ≡ placed offset written ⌝ }
+{
+    if offset % 2 == 1 {
+        (written as u64) * 256
+    } else {
+        written as u64
+    }
 }
 
 // A control bit, 0 SCI_EN, 1 BM_RLD or 2 GBL_RLS, lives in the block.
@@ -159,19 +192,20 @@ pub fn control_register(m: Machine, b: bool) -> u32
     let sci_en = pick32(control_in(s, b, 0) & m.sci_en, 1, 0);
     let bm_rld = pick32(control_in(s, b, 1) & m.bm_rld, 2, 0);
     let typ = slp_typ(m, b) as u32;
-    sci_en | bm_rld | (typ * 1024)
+    sci_en | bm_rld | (typ % 8 * 1024)
 }
 
-pub fn covers_low(width: u32, offset: u64) -> bool
-    ensures { λ r. ⌜ r ≡ coversLow width offset ⌝ }
+// A control access covers the low byte, or the high byte.
+pub fn covers_low(offset: u64) -> bool
+    ensures { λ r. ⌜ r ≡ coversLow offset ⌝ }
 {
-    (width == 2) | (offset % 2 == 0)
+    offset == 0
 }
 
 pub fn covers_high(width: u32, offset: u64) -> bool
     ensures { λ r. ⌜ r ≡ coversHigh width offset ⌝ }
 {
-    (width == 2) | (offset % 2 == 1)
+    (offset == 1) | ((offset == 0) & (width == 2))
 }
 
 pub fn written_bit(offset: u64, written: u32, n: u8) -> bool

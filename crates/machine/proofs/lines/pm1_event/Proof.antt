@@ -1,0 +1,16 @@
+-- `machine::lines::pm1_event` meets its contract: what its calls and tests say, put together, is the definition. Assumes nothing.
+use borrow.Author.Needs.{needs}
+use Rattle.machine.proofs.lines.pm1_event.Statement.{statement}
+use Rattle.machine.proofs.lines.pm1_event.Tie as tie
+
+event-bits-requires : tie.Need-event-bits-requires
+event-bits-requires c κs = search needs
+
+has-bit-requires : tie.Need-has-bit-requires
+has-bit-requires c κs = search needs
+
+returns : tie.Need-returns
+returns c = simp (c .has-bit .ensures, c .before .event-bits .ensures)
+
+pub pm1-event-spec : {M : Type 1} → statement M
+pm1-event-spec = tie.close (tie.spec event-bits-requires has-bit-requires returns)
