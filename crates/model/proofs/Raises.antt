@@ -580,7 +580,7 @@ event-past : (m : Machine) (b : Bool) (i : ℕ) → eventCount (gpeBlock (m .set
 unfolding gpeEventChange liesIn
 event-past m b i r =
     event-cases (λ e. ifAccepted m (step.Event e) (gpeEventChange m e b i) .raised ≡ 0)
-    (λ e j p. no-bits (accepted (answerTo m (step.Event e))) (not (inS5 m)) _ _ _ (rw p (none (accepted (answerTo m (step.Event e))) j)))
+    (λ e j l p. no-bits (accepted (answerTo m (step.Event e))) (not (inS5 m)) _ _ _ (rw p (none (accepted (answerTo m (step.Event e))) j)))
     (λ k. rw (general-accepted m k)
     (no-bits (inGpe0 (m .settings) k || inGpe1 (m .settings) k) (not (inS5 m)) _ _ _
     (none-lies (m .settings) k b i r (inGpe0 (m .settings) k) (inGpe1 (m .settings) k) refl refl)))

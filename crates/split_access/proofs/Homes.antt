@@ -16,13 +16,13 @@ use Rattle.bits.proofs.Cells.{masked-lt}
 use Rattle.bits.proofs.Digits.{digit-and, digit-le, digit-zero, digit-not, digit-own-bit, digit-other-bit, same-digits, below-or-beyond}
 use Rattle.platform.specs.Cells.{statusCells}
 use Rattle.platform.specs.declared.settings.Settings.{Settings}
-use Rattle.machine.specs.Cells.{pwrbtnBit, slpbtnBit, rtcBit, tmrBit, hasBit, statusIn, onesIn, covered, placed, laneAt}
+use Rattle.machine.specs.Cells.{hasBit, statusIn, clearable, onesIn, oneByte, covered, placed, laneAt}
 use Rattle.machine.specs.declared.Machine.{Machine}
-use Rattle.model.specs.Events.{fits, tmrRaised}
+use Rattle.model.specs.Events.{pm1, eventMask}
 use Rattle.model.specs.declared.Event.{Event}
-use Rattle.model.specs.declared.Event.the-variants as event
+use Rattle.model.proofs.EventBits.{event-cases, event-mask-lt}
 use Rattle.split_access.specs.Gap.{livesInB, eventBefore}
-use Rattle.split_access.proofs.Effects.{effectOf, clockTicks}
+use Rattle.split_access.proofs.Effects.{liveOf, effectOf}
 
 -- ---- one bit
 
@@ -71,7 +71,7 @@ bit-in-home s false i h e true = apart-cells (2 ^ i) (statusCells s) (2 ^ 16 - 1
 bit-in-home s b i h e false = and-zero-l (statusIn s b)
 
 -- the block's cells have no digit of a bit that lives in the other
-pub home-digit : (s : Settings) (b : Bool) (i : ℕ) → i < 16 → livesInB s (2 ^ i) ≡ not b → digit i (statusIn s b) ≡ 0
+pub home-digit : (s : Settings) (b : Bool) (i : ℕ) → i < 16 → livesInB s (pm1 i) ≡ not b → digit i (statusIn s b) ≡ 0
 unfolding livesInB
 home-digit s b i h e =
     let apart = disjoint-digit (2 ^ i) (statusIn s b) (bit-in-home s b i h e true) i in
@@ -84,37 +84,25 @@ maskOf s e = effectOf s e .mask
 
 -- an event that goes before raises nothing of A's, one that goes after nothing of B's
 pub raises-at-home : (s : Settings) (e : Event) (b : Bool) → eventBefore s e ≡ not b → (button : Bool) (hold counter : ℕ) → bitAnd (maskOf s e button hold counter) (statusIn s b) ≡ 0
-unfolding livesInB tmrRaised
-raises-at-home s event.Press b e button hold counter = bit-in-home s b 8 (lit< tt) e (fits s pwrbtnBit && not button)
-raises-at-home s event.Release b e button hold counter = and-zero-l (statusIn s b)
-raises-at-home s event.SleepPress b e button hold counter = bit-in-home s b 9 (lit< tt) e (fits s slpbtnBit)
-raises-at-home s event.Alarm b e button hold counter = bit-in-home s b 10 (lit< tt) e (fits s rtcBit)
-raises-at-home s event.PcieWake b e button hold counter = and-zero-l (statusIn s b)
-raises-at-home s event.BusMaster b e button hold counter = bit-in-home s b 4 (lit< tt) e true
-raises-at-home s event.Unlock b e button hold counter = bit-in-home s b 5 (lit< tt) e true
-raises-at-home s (event.General k) b e button hold counter = and-zero-l (statusIn s b)
-raises-at-home s (event.Ticks n) b e button hold counter = bit-in-home s b 0 (lit< tt) e (fits s tmrBit && not (eqb (clockTicks s n button hold counter .turns) 0))
+unfolding livesInB effectOf
+raises-at-home s e b home button hold counter =
+    event-cases (λ x. eventBefore s x ≡ not b → bitAnd (maskOf s x button hold counter) (statusIn s b) ≡ 0)
+    (λ x i l p h. rw p (bit-in-home s b i l (rw p at h) (liveOf s x .sets button hold counter)))
+    (λ k h. and-zero-l (statusIn s b))
+    e home
 
 bit-small : (t : Bool) (x : ℕ) → x < 2 ^ 16 → cond t x 0 < 2 ^ 16
 bit-small true x h = h
 bit-small false x h = lit< tt
 
 pub raises-small : (s : Settings) (e : Event) (button : Bool) (hold counter : ℕ) → maskOf s e button hold counter < 2 ^ 16
-unfolding tmrRaised
-raises-small s event.Press button hold counter = bit-small (fits s pwrbtnBit && not button) pwrbtnBit (lit< tt)
-raises-small s event.Release button hold counter = lit< tt
-raises-small s event.SleepPress button hold counter = bit-small (fits s slpbtnBit) slpbtnBit (lit< tt)
-raises-small s event.Alarm button hold counter = bit-small (fits s rtcBit) rtcBit (lit< tt)
-raises-small s event.PcieWake button hold counter = lit< tt
-raises-small s event.BusMaster button hold counter = lit< tt
-raises-small s event.Unlock button hold counter = lit< tt
-raises-small s (event.General k) button hold counter = lit< tt
-raises-small s (event.Ticks n) button hold counter = bit-small (fits s tmrBit && not (eqb (clockTicks s n button hold counter .turns) 0)) tmrBit (lit< tt)
+unfolding effectOf
+raises-small s e button hold counter = bit-small (liveOf s e .sets button hold counter) (eventMask e) (event-mask-lt e)
 
 -- ---- the ones of a write
 
 covered-small : (width offset : ℕ) → covered width offset < 2 ^ 16
-covered-small width offset = go (eqb width 1)
+covered-small width offset = go (oneByte width offset)
   where
     go : (t : Bool) → cond t (lane (laneAt offset) 255) (2 ^ 16 - 1) < 2 ^ 16
     go true =
@@ -123,7 +111,7 @@ covered-small width offset = go (eqb width 1)
     go false = lit< tt
 
 pub ones-small : (m : Machine) (b : Bool) (width offset written : ℕ) → onesIn m b width offset written < 2 ^ 16
-ones-small m b width offset written = masked-lt 16 (placed offset written) (bitAnd (statusIn (m .settings) b) (covered width offset)) (masked-lt 16 (statusIn (m .settings) b) (covered width offset) (covered-small width offset))
+ones-small m b width offset written = masked-lt 16 (placed offset written) (bitAnd (clearable m b) (covered width offset)) (masked-lt 16 (clearable m b) (covered width offset) (covered-small width offset))
 
 pub ones-at-home : (m : Machine) (b : Bool) (width offset written mask : ℕ) → bitAnd mask (statusIn (m .settings) b) ≡ 0 → bitAnd mask (onesIn m b width offset written) ≡ 0
 ones-at-home m b width offset written mask e = apart-within mask (statusIn (m .settings) b) (placed offset written) (covered width offset) e

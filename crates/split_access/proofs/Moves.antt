@@ -15,12 +15,12 @@ use Rattle.machine.specs.SetUp.{setUpOf}
 use Rattle.machine.specs.declared.Machine.{Machine}
 use Rattle.machine.proofs.Accepted.{accepted-guaranteed}
 use Rattle.model.specs.Step.{answerTo, after, stepOf}
-use Rattle.model.proofs.Steps.{settings-kept}
+use Rattle.model.proofs.Settings.{settings-kept}
 use Rattle.model.specs.declared.Step.{Step}
 use Rattle.model.specs.declared.Step.the-variants as step
 use Rattle.split_access.specs.Start.{InS0}
-use Rattle.split_access.specs.Gap.{before}
-use Rattle.split_access.specs.Claims.{accessAt, Halves, reads, writes, GapStep, gap-step, buttonStep, tickingStep, mixed, ItemOn, step-item, control-item, event-item, MovesFrom, Demand3}
+use Rattle.split_access.specs.Gap.{onEvent, before, isButton, isTicking}
+use Rattle.split_access.specs.Claims.{accessAt, Halves, reads, writes, GapStep, gap-step, mixed, ItemOn, step-item, control-item, event-item, MovesFrom, Demand3}
 use Rattle.split_access.proofs.Free.{Ok, EventHalf, event-read, event-write, ControlHalf, control-read, control-write, Free, past-control, past-half-a, past-event, FreeLast, past-half-b, swap, swap-last}
 use Rattle.split_access.proofs.Leads.{event-a, event-b, control-a}
 use Rattle.split_access.proofs.Sides.{true-false, sides-apart}
@@ -44,10 +44,10 @@ module _ (s : Settings) (legal : Guaranteed s) where
 
 -- a gap with no button, or a gap with no ticks
 data GapKind (gap : List Step) : Type 0 where
-  no-button : any buttonStep gap ≡ false → GapKind gap
-  no-ticks : any tickingStep gap ≡ false → GapKind gap
+  no-button : any (onEvent isButton) gap ≡ false → GapKind gap
+  no-ticks : any (onEvent isTicking) gap ≡ false → GapKind gap
 
-kind-of : (gap : List Step) (t u : Bool) → any buttonStep gap ≡ t → any tickingStep gap ≡ u → mixed gap ≡ false → GapKind gap
+kind-of : (gap : List Step) (t u : Bool) → any (onEvent isButton) gap ≡ t → any (onEvent isTicking) gap ≡ u → mixed gap ≡ false → GapKind gap
 kind-of gap false u p q e = no-button p
 kind-of gap true false p q e = no-ticks q
 kind-of gap true true p q e = true-false (rw (p, q) at e)
@@ -59,25 +59,25 @@ every-with f [] steps e = tt
 every-with f (x ∷ gap) steps e = ((steps .0, or-left (f x) (any f gap) e), every-with f gap (steps .1) (or-right (f x) (any f gap) e))
 
 module _ (s : Settings) where
-  apart-no-button : (g b : Step) → GapStep g × (buttonStep g ≡ false) → GapStep b × (buttonStep b ≡ false)
+  apart-no-button : (g b : Step) → GapStep g × (onEvent isButton g ≡ false) → GapStep b × (onEvent isButton b ≡ false)
       → before s g ≡ false → before s b ≡ true → Free s g b
   apart-no-button g b kg kb p q = go g b (kg .0) (kb .0) (kg .1) (kb .1) p q
     where
-      go : (g b : Step) → GapStep g → GapStep b → buttonStep g ≡ false → buttonStep b ≡ false → before s g ≡ false → before s b ≡ true → Free s g b
+      go : (g b : Step) → GapStep g → GapStep b → onEvent isButton g ≡ false → onEvent isButton b ≡ false → before s g ≡ false → before s b ≡ true → Free s g b
       go g b (gap-step x) (gap-step y) ng nb p q =
           past-event x y (sides-apart s x y p q (record { buttons = λ h. true-false (sym h ∙ ng); ticks = λ h. nb }))
 
-  apart-no-ticks : (g b : Step) → GapStep g × (tickingStep g ≡ false) → GapStep b × (tickingStep b ≡ false)
+  apart-no-ticks : (g b : Step) → GapStep g × (onEvent isTicking g ≡ false) → GapStep b × (onEvent isTicking b ≡ false)
       → before s g ≡ false → before s b ≡ true → Free s g b
   apart-no-ticks g b kg kb p q = go g b (kg .0) (kb .0) (kg .1) (kb .1) p q
     where
-      go : (g b : Step) → GapStep g → GapStep b → tickingStep g ≡ false → tickingStep b ≡ false → before s g ≡ false → before s b ≡ true → Free s g b
+      go : (g b : Step) → GapStep g → GapStep b → onEvent isTicking g ≡ false → onEvent isTicking b ≡ false → before s g ≡ false → before s b ≡ true → Free s g b
       go g b (gap-step x) (gap-step y) ng nb p q =
           past-event x y (sides-apart s x y p q (record { buttons = λ h. nb; ticks = λ h. true-false (sym h ∙ ng) }))
 
   gap-sortable : (gap : List Step) → Every GapStep gap → GapKind gap → Sortable (before s) (Free s) gap
-  gap-sortable gap steps (no-button e) = sortable-by (before s) (Free s) (λ x. GapStep x × (buttonStep x ≡ false)) apart-no-button gap (every-with buttonStep gap steps e)
-  gap-sortable gap steps (no-ticks e) = sortable-by (before s) (Free s) (λ x. GapStep x × (tickingStep x ≡ false)) apart-no-ticks gap (every-with tickingStep gap steps e)
+  gap-sortable gap steps (no-button e) = sortable-by (before s) (Free s) (λ x. GapStep x × (onEvent isButton x ≡ false)) apart-no-button gap (every-with (onEvent isButton) gap steps e)
+  gap-sortable gap steps (no-ticks e) = sortable-by (before s) (Free s) (λ x. GapStep x × (onEvent isTicking x ≡ false)) apart-no-ticks gap (every-with (onEvent isTicking) gap steps e)
 
 -- ---- the items
 
@@ -98,7 +98,7 @@ fits-item s legal i (control-item {h = h} {gap = gap} p halves g) =
 fits-item s legal i (event-item {h = h} {h′ = h′} {gap = gap} p halves g) = (
   every-imp GapStep (λ x. before s x ≡ true → Free s h x) (λ x k. past-a s h x (first-event s legal halves) k) gap (g .steps),
   every-imp GapStep (λ x. before s x ≡ false → FreeLast s x h′) (λ x k. past-b s h′ x (second-event s legal p halves) k) gap (g .steps),
-  gap-sortable s gap (g .steps) (kind-of gap (any buttonStep gap) (any tickingStep gap) refl refl (g .unmixed)),
+  gap-sortable s gap (g .steps) (kind-of gap (any (onEvent isButton) gap) (any (onEvent isTicking) gap) refl refl (g .unmixed)),
 )
 
 -- ---- awake, with the settings

@@ -20,7 +20,7 @@ use Rattle.platform.specs.declared.rules.SetUpAnswer.the-variants as set-up
 use Rattle.fadt.specs.Fields.{dword, settingsOf}
 use Rattle.fadt.specs.Table.{tableShort, standsAt, noSignature, wrongTableLength, wrongSum}
 use Rattle.machine.specs.PowerOn.{powerOn}
-use Rattle.machine.specs.Cells.{hasBit, inStatus, statusAfter, enableAfter, controlIn, coversLow, coversHigh, writtenBit}
+use Rattle.machine.specs.Cells.{hasBit, inStatus, inEnable, statusAfter, enableAfter, controlIn, coversLow, coversHigh, writtenBit}
 use Rattle.machine.specs.Lines.{awake, anyEnabled}
 use Rattle.machine.specs.Sleep.{isSleeping, wakeBits, pending, completed}
 use Rattle.machine.specs.SetUp.{setUpFrom, setUpOf}
@@ -177,5 +177,5 @@ press-homes = refl
 
 -- to unfold this is to unfold what a step of the machine, and a list of them, compute with
 unfoldable pub steps-compute : Unit {0}
-unfolding any firstAt digit flagOf bitAt maskOf turned grow overrides tickOf absent samePair named firstFrom present holds hasBit inStatus statusAfter enableAfter controlIn coversLow coversHigh writtenBit awake anyEnabled isSleeping wakeBits pending completed firstApplying wrongWidth dataTooWide leadsNowhere allowed isTimer commandLost readOf setsSlpEn typAfter completes armedAfter namesNone bmRldAfter gblRlsAfter writeOf inS5 pressOf signalOf pcieWakeOf inGpe0 inGpe1 generalRaised generalEnabled generalOf tmrRaised timed tickedOnce ticksOf eventOf registerAt offsetAt signalChange pressChange eventChange ruleChange raises answerTo after livesInB RaisedIn passing failing original moved stepsOf Every Run afterAll Throughout Awake
+unfolding any firstAt digit flagOf bitAt maskOf turned grow overrides tickOf absent samePair named firstFrom present holds hasBit inStatus inEnable statusAfter enableAfter controlIn coversLow coversHigh writtenBit awake anyEnabled isSleeping wakeBits pending completed firstApplying wrongWidth dataTooWide leadsNowhere allowed isTimer commandLost readOf setsSlpEn typAfter completes armedAfter namesNone bmRldAfter gblRlsAfter writeOf inS5 pressOf signalOf pcieWakeOf inGpe0 inGpe1 generalRaised generalEnabled generalOf tmrRaised timed tickedOnce ticksOf eventOf registerAt offsetAt signalChange pressChange eventChange ruleChange raises answerTo after livesInB RaisedIn passing failing original moved stepsOf Every Run afterAll Throughout Awake
 steps-compute = tt

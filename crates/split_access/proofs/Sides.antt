@@ -1,19 +1,23 @@
 -- Two events of one gap that go to different sides: not both are live, so that they may change places.
 -- Presses and releases have one home, ticks have one home, and no gap holds both kinds. Assumes nothing.
-use mathlib.Core.Bool.{Bool, true, false, not}
-use mathlib.Core.Path.{_≡_, refl, sym, _∙_}
+use mathlib.Core.Bool.{Bool, true, false, _&&_}
+use mathlib.Core.List.{List}
+use mathlib.Core.Path.{_≡_, refl, sym, _∙_, ap}
 use Prim.Native.Nat.{ℕ}
 use native.Mathlib.Omega.{arith}
 use borrow.Author.Tests.{eqb-true, not-false}
 use lib.Dec.{eqb}
+use Rattle.lists.proofs.Tests.{and-left}
 use Rattle.clock.specs.Clock as clock
 use Rattle.platform.specs.declared.settings.Settings.{Settings}
-use Rattle.machine.specs.Cells.{pwrbtnBit, tmrBit}
-use Rattle.model.specs.Events.{tmrRaised}
+use Rattle.machine.specs.Cells.{tmrBit}
+use Rattle.model.specs.Events.{StatusBit, pm1, gpe, eventBit, fits}
+use Rattle.model.specs.Raises.{bitsIf}
 use Rattle.model.specs.declared.Answer.the-variants as answer
 use Rattle.model.specs.declared.Event.{Event}
 use Rattle.model.specs.declared.Event.the-variants as event
-use Rattle.split_access.specs.Gap.{livesInB, eventBefore, isButton, isTicking}
+use Rattle.split_access.specs.Gap.{livesInB, eventBefore, isPm1Bit, isButton, isTicking}
+use Rattle.split_access.proofs.Effects.{gpe0After, gpe1After, effectOf}
 use Rattle.split_access.proofs.Commute.{Quiet, GpeKept, Apart, quiet-first, quiet-second}
 
 zero-one : _≡_ {A = ℕ} 0 1 → ⊥
@@ -25,12 +29,13 @@ true-false e = let z : _≡_ {A = ℕ} 0 1 = cc in absurd (zero-one z)
 -- ---- quiet events
 
 ticks-none : (s : Settings) (n : ℕ) → n ≡ 0 → Quiet s (event.Ticks n)
-unfolding clock.ticksOf
+unfolding clock.ticksOf effectOf
 ticks-none s n e =
-    record { answer = answer.Done 0; mask = tmrRaised s 0; gpe0 = λ xs. xs; gpe1 = λ xs. xs; is = rw e refl }
+    record { answer = answer.Done 0; mask = bitsIf (fits s tmrBit && false) tmrBit; gpe0 = λ xs. xs; gpe1 = λ xs. xs; is = rw e refl }
 
 -- neither a button nor ticks
 quiet-event : (s : Settings) (e : Event) → isButton e ≡ false → isTicking e ≡ false → Quiet s e
+unfolding effectOf
 quiet-event s event.Press p q = true-false p
 quiet-event s event.Release p q = true-false p
 quiet-event s event.SleepPress p q = record { answer = _; mask = _; gpe0 = _; gpe1 = _; is = refl }
@@ -41,43 +46,37 @@ quiet-event s event.Unlock p q = record { answer = _; mask = _; gpe0 = _; gpe1 =
 quiet-event s (event.General k) p q = record { answer = _; mask = _; gpe0 = _; gpe1 = _; is = refl }
 quiet-event s (event.Ticks n) p q = ticks-none s n (eqb-true n 0 (not-false (eqb n 0) q))
 
--- only a general event changes general status bytes, and it never goes before
-kept-before : (s : Settings) (e : Event) → eventBefore s e ≡ true → GpeKept s e
-kept-before s event.Press h = record { first = refl; second = refl }
-kept-before s event.Release h = record { first = refl; second = refl }
-kept-before s event.SleepPress h = record { first = refl; second = refl }
-kept-before s event.Alarm h = record { first = refl; second = refl }
-kept-before s event.PcieWake h = record { first = refl; second = refl }
-kept-before s event.BusMaster h = record { first = refl; second = refl }
-kept-before s event.Unlock h = record { first = refl; second = refl }
-kept-before s (event.General k) h = true-false (sym h)
-kept-before s (event.Ticks n) h = record { first = refl; second = refl }
+-- ---- the events that go by a PM1 bit
 
--- ---- live events: a side each
+-- they change no general status byte
+gpe-kept : (s : Settings) (e : Event) (i : ℕ) → eventBit e ≡ pm1 i → GpeKept s e
+unfolding effectOf
+gpe-kept s e i p = record { first = ap (gpe0After s) p; second = ap (gpe1After s) p }
+
+-- a general event never goes before
+kept-before : (s : Settings) (e : Event) → eventBefore s e ≡ true → GpeKept s e
+unfolding livesInB
+kept-before s e h = go (eventBit e) refl h
+  where
+    go : (bit : StatusBit) → eventBit e ≡ bit → livesInB s bit ≡ true → GpeKept s e
+    go (pm1 i) p h = gpe-kept s e i p
+    go (gpe k) p h = true-false (sym h)
+
+-- what goes by bit i has that bit's side
+bit-side : (s : Settings) (i : ℕ) (e : Event) → isPm1Bit i (eventBit e) ≡ true → (eventBefore s e ≡ livesInB s (pm1 i)) × GpeKept s e
+bit-side s i e h = go (eventBit e) refl h
+  where
+    go : (bit : StatusBit) → eventBit e ≡ bit → isPm1Bit i bit ≡ true → (eventBefore s e ≡ livesInB s (pm1 i)) × GpeKept s e
+    go (pm1 j) p h = (rw (p, eqb-true j i h) refl, gpe-kept s e j p)
+    go (gpe k) p h = true-false (sym h)
 
 -- what is a button goes by bit 8
-button-side : (s : Settings) (e : Event) → isButton e ≡ true → (eventBefore s e ≡ livesInB s pwrbtnBit) × GpeKept s e
-button-side s event.Press p = (refl, record { first = refl; second = refl })
-button-side s event.Release p = (refl, record { first = refl; second = refl })
-button-side s event.SleepPress p = true-false (sym p)
-button-side s event.Alarm p = true-false (sym p)
-button-side s event.PcieWake p = true-false (sym p)
-button-side s event.BusMaster p = true-false (sym p)
-button-side s event.Unlock p = true-false (sym p)
-button-side s (event.General k) p = true-false (sym p)
-button-side s (event.Ticks n) p = true-false (sym p)
+button-side : (s : Settings) (e : Event) → isButton e ≡ true → (eventBefore s e ≡ livesInB s (pm1 8)) × GpeKept s e
+button-side s e p = bit-side s 8 e p
 
 -- ticks go by bit 0
-ticking-side : (s : Settings) (e : Event) → isTicking e ≡ true → (eventBefore s e ≡ livesInB s tmrBit) × GpeKept s e
-ticking-side s event.Press p = true-false (sym p)
-ticking-side s event.Release p = true-false (sym p)
-ticking-side s event.SleepPress p = true-false (sym p)
-ticking-side s event.Alarm p = true-false (sym p)
-ticking-side s event.PcieWake p = true-false (sym p)
-ticking-side s event.BusMaster p = true-false (sym p)
-ticking-side s event.Unlock p = true-false (sym p)
-ticking-side s (event.General k) p = true-false (sym p)
-ticking-side s (event.Ticks n) p = (refl, record { first = refl; second = refl })
+ticking-side : (s : Settings) (e : Event) → isTicking e ≡ true → (eventBefore s e ≡ livesInB s (pm1 0)) × GpeKept s e
+ticking-side s e p = bit-side s 0 e (and-left _ _ p)
 
 -- ---- two of a gap
 

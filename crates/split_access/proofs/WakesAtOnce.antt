@@ -16,10 +16,10 @@ use Rattle.model.specs.declared.Register.the-variants as register
 use Rattle.model.specs.declared.Step.{Step}
 use Rattle.model.specs.declared.Step.the-variants as step
 use Rattle.model.proofs.LinesExactly.{awake-exactly}
-use Rattle.model.proofs.Steps.{ticks-done}
+use Rattle.model.proofs.Readings.{ticks-done}
 use Rattle.model.proofs.Ticks.{cond-ap, ticks-state}
 use Rattle.split_access.specs.WakesAtOnce.{WakesAtOnceFrom, WakesAtOnce}
-use Rattle.split_access.proofs.Effects.{On, event-affects}
+use Rattle.split_access.proofs.Effects.{On, event-affects, on-or-ticks}
 
 -- from m, if the state is one of S1 to S4, nothing is pending for it
 abbrev Rests : Machine → ℕ → Type 0
@@ -97,15 +97,7 @@ module _ (m : Machine) (z : m .state ≡ 0) where
       go false = zero-rests m 0 refl
 
   event-rests : (e : Event) → Rests m (after m (step.Event e) .state)
-  event-rests event.Press = kept-rests event.Press refl
-  event-rests event.Release = kept-rests event.Release refl
-  event-rests event.SleepPress = kept-rests event.SleepPress refl
-  event-rests event.Alarm = kept-rests event.Alarm refl
-  event-rests event.PcieWake = kept-rests event.PcieWake refl
-  event-rests event.BusMaster = kept-rests event.BusMaster refl
-  event-rests event.Unlock = kept-rests event.Unlock refl
-  event-rests (event.General k) = kept-rests (event.General k) refl
-  event-rests (event.Ticks n) = ticks-rest n
+  event-rests = on-or-ticks (λ e. Rests m (after m (step.Event e) .state)) (λ e on. kept-rests e (on m)) ticks-rest
 
   -- ---- every step
 

@@ -18,14 +18,14 @@ use Rattle.platform.specs.Legal.{Guaranteed, HasGpeLength, HasNone}
 use Rattle.platform.specs.Rules.{eventCount}
 use Rattle.platform.specs.declared.block.Block.{Block}
 use Rattle.platform.specs.declared.settings.Settings.{Settings}
-use Rattle.machine.specs.Cells.{placed, statusIn, onesIn, inStatus, gpeSts}
+use Rattle.machine.specs.Cells.{placed, statusIn, clearable, onesIn, inStatus, gpeSts}
 use Rattle.machine.specs.Lines.{awake}
 use Rattle.machine.specs.PowerOn.{gpeBytes, powerOn}
 use Rattle.machine.specs.SetUp.{setUpOf}
 use Rattle.machine.specs.declared.Machine.{Machine}
 use Rattle.machine.proofs.Accepted.{accepted-guaranteed, accepted-machine}
 use Rattle.fadt.specs.Fields.{settingsOf}
-use Rattle.model.specs.Events.{inS5}
+use Rattle.model.specs.Events.{pm1, inS5}
 use Rattle.model.specs.Raises.{Change, unchanged, bitsIf, pressChange, signalChange, pcieWakeChange, ticksChange, eventChange, ruleChange, writeChange, raises, clears, gpeEventChange, gpeOnes, gpeRuleChange, gpeRaises, gpeClears}
 use Rattle.model.specs.Step.{answerTo, after, accepted, stepOf, registerOf, offsetOf}
 use Rattle.model.specs.declared.Access.{Access}
@@ -36,11 +36,11 @@ use Rattle.model.specs.declared.Step.{Step}
 use Rattle.model.specs.declared.Step.the-variants as step
 use Rattle.model.proofs.Raises.{status-law, clears-lt, status-stays-below, gpe-status-law-everywhere, gpe-status-stays-below, gpe-clears-lt, gpeBlock, no-byte}
 use Rattle.model.proofs.Sized.{Sized, sized-at, sized-kept}
-use Rattle.model.proofs.Steps.{settings-kept}
+use Rattle.model.proofs.Settings.{settings-kept}
 use Rattle.split_access.specs.Start.{InS0}
 use Rattle.split_access.specs.Gap.{livesInB}
 use Rattle.split_access.specs.Claims.{accessAt, GapStep, gap-step}
-use Rattle.split_access.proofs.Effects.{On, event-on}
+use Rattle.split_access.proofs.Effects.{effectOf, On, event-on}
 use Rattle.split_access.proofs.Homes.{home-digit}
 use Rattle.split_access.proofs.Leads.{event-a, event-b, offset-a, offset-b}
 use Rattle.split_access.proofs.Moves.{all-kept}
@@ -152,7 +152,7 @@ not-in-s5 m z = rw z refl
 
 -- a gap step of a machine that stays awake clears no PM1 bit
 event-change-none : (m : Machine) (e : Event) → m .state ≡ 0 → On m e → eventChange m e .cleared ≡ 0
-unfolding eventChange pressChange signalChange pcieWakeChange ticksChange
+unfolding effectOf eventChange pressChange signalChange pcieWakeChange ticksChange
 event-change-none m event.Press z on = rw (not-in-s5 m z) refl
 event-change-none m event.Release z on = refl
 event-change-none m event.SleepPress z on = refl
@@ -166,15 +166,7 @@ event-change-none m (event.Ticks n) z on = rw (on, and-false (awake m)) refl
 -- a gap step of a machine that is awake clears no general bit
 gpe-change-none : (m : Machine) (e : Event) (b : Bool) (i : ℕ) → m .state ≡ 0 → gpeEventChange m e b i .cleared ≡ 0
 unfolding gpeEventChange
-gpe-change-none m event.Press b i z = rw (not-in-s5 m z) refl
-gpe-change-none m event.Release b i z = refl
-gpe-change-none m event.SleepPress b i z = refl
-gpe-change-none m event.Alarm b i z = refl
-gpe-change-none m event.PcieWake b i z = refl
-gpe-change-none m event.BusMaster b i z = refl
-gpe-change-none m event.Unlock b i z = refl
-gpe-change-none m (event.General k) b i z = refl
-gpe-change-none m (event.Ticks n) b i z = refl
+gpe-change-none m e b i z = rw (not-in-s5 m z) refl
 
 event-clears-none : (m : Machine) (e : Event) → m .state ≡ 0 → On m e → clears m (step.Event e) ≡ 0
 unfolding clears ruleChange
@@ -199,7 +191,7 @@ gpe-write-clears-none m a written c b i r = none-cleared (accepted (answerTo m (
 
 -- a write to an event register clears no PM1 bit that is not both written and the block's
 write-clears-none : (m : Machine) (a : Access) (written : ℕ) (c : Bool) (i : ℕ) → registerOf m a ≡ register.Pm1Evt c
-    → (digit i (placed (offsetOf m a) written) ≡ 0) ⊎ (digit i (statusIn (m .settings) c) ≡ 0) → digit i (clears m (step.Write a written)) ≡ 0
+    → (digit i (placed (offsetOf m a) written) ≡ 0) ⊎ (digit i (clearable m c) ≡ 0) → digit i (clears m (step.Write a written)) ≡ 0
 unfolding clears ruleChange writeChange
 write-clears-none m a written c i r h = go (accepted (answerTo m (step.Write a written))) (inStatus (offsetOf m a))
   where
@@ -227,11 +219,11 @@ pm1-law i h m x w e =
 gpe-room : (m : Machine) → Wide m → (b : Bool) → eventCount (gpeBlock (m .settings) b) ≤ 8 * length (gpeSts m b)
 gpe-room m w b = rw (sized-at m (w .sized) b) (go b)
   where
-    short : (k : Block) → HasGpeLength k → HasNone k → (t : Bool) → present k ≡ t → eventCount k ≤ 64
+    short : (k : Block) → HasGpeLength k → HasNone k → (t : Bool) → present k ≡ t → eventCount k ≤ 8 * gpeBytes
     short k has none true p = let l = has p .2 in omega arith
     short k has none false p = let l = none p in omega arith
 
-    go : (b : Bool) → eventCount (gpeBlock (m .settings) b) ≤ 64
+    go : (b : Bool) → eventCount (gpeBlock (m .settings) b) ≤ 8 * gpeBytes
     go true = short (m .settings .gpe1) (w .legal .gpe1-length) (w .legal .gpe1-none) (present (m .settings .gpe1)) refl
     go false = short (m .settings .gpe0) (w .legal .gpe0-length) (w .legal .gpe0-none) (present (m .settings .gpe0)) refl
 
@@ -280,7 +272,7 @@ module _ (m : Machine) (w : Wide m) (r : Round) (on : RoundOn (m .settings) r) w
       (rw (e, offset-b (m .settings) (w .legal) (r .offset) (on .b-present) within) h)
 
   -- the value of the bit's home does not show it: the half of its home does not write it, and the other half is not its home
-  spared : (i : ℕ) → i < 16 → (va vb : ℕ) (t : Bool) → livesInB (m .settings) (2 ^ i) ≡ t → digit i (placed (r .offset) (cond t vb va)) ≡ 0
+  spared : (i : ℕ) → i < 16 → (va vb : ℕ) (t : Bool) → livesInB (m .settings) (pm1 i) ≡ t → digit i (placed (r .offset) (cond t vb va)) ≡ 0
       → ((digit i (placed (r .offset) va) ≡ 0) ⊎ (digit i (statusIn (m .settings) false) ≡ 0))
       × ((digit i (placed (r .offset) vb) ≡ 0) ⊎ (digit i (statusIn (m .settings) true) ≡ 0))
   spared i h va vb true p e = (inr (home-digit (m .settings) false i h p), inl e)
@@ -298,7 +290,7 @@ module _ (m : Machine) (w : Wide m) (r : Round) (on : RoundOn (m .settings) r) w
       let vb = valueB stepOf m r in
       record {
         pm1 = λ i h raised unshown.
-            let free = spared i h va vb (livesInB s (2 ^ i)) refl unshown in
+            let free = spared i h va vb (livesInB s (pm1 i)) refl unshown in
             let law = pm1-law i h in
             let gaps = gap-keeps (λ k. k .«pm1_sts») raises clears i law (λ k e z o. digit-none i _ (event-clears-none k e z o)) in
             raised-stays (λ k. k .«pm1_sts») raises clears i law first (restOf stepOf m r) (wide-kept m (readA s r) w)
@@ -331,7 +323,7 @@ power-on-wide s legal =
     record {
       status = lit< tt;
       bytes = none;
-      sized = record { first = refl; second = refl };
+      sized = (refl, refl);
       legal = legal;
     }
   where

@@ -15,7 +15,7 @@ use Rattle.model.specs.declared.Event.{Event}
 use Rattle.model.specs.declared.Step.{Step}
 use Rattle.model.specs.declared.Step.the-variants as step
 use Rattle.split_access.specs.Start.{SettingUp, Stepping, nextBy, InS0, FromSetUp}
-use Rattle.split_access.specs.Gap.{before, isButton, isTicking}
+use Rattle.split_access.specs.Gap.{onEvent, before, isButton, isTicking}
 
 -- an access as the guest writes it: the block's address plus an offset
 abbrev pub accessAt : Block → ℕ → ℕ → Access
@@ -31,23 +31,9 @@ pub data Halves (a b : Block) : Step → Step → Type 0 where
 pub data GapStep : Step → Type 0 where
   gap-step : (e : Event) → GapStep (step.Event e)
 
-abbrev pub buttonStep : Step → Bool
-buttonStep (step.Read a) = false
-buttonStep (step.Write a written) = false
-buttonStep (step.Event e) = isButton e
-buttonStep step.Take = false
-buttonStep step.Drop = false
-
-abbrev pub tickingStep : Step → Bool
-tickingStep (step.Read a) = false
-tickingStep (step.Write a written) = false
-tickingStep (step.Event e) = isTicking e
-tickingStep step.Take = false
-tickingStep step.Drop = false
-
 -- "no gap holds both a press or release and ticks (n above zero)"
 abbrev pub mixed : List Step → Bool
-mixed gap = any buttonStep gap && any tickingStep gap
+mixed gap = any (onEvent isButton) gap && any (onEvent isTicking) gap
 
 pub record Gap (gap : List Step) : Type 0 where
   pub steps : Every GapStep gap

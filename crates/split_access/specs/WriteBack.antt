@@ -12,6 +12,7 @@ use Rattle.platform.specs.declared.settings.Settings.{Settings}
 use Rattle.machine.specs.Cells.{placed, gpeSts}
 use Rattle.machine.specs.declared.Machine.{Machine}
 use Rattle.model.specs.Answer.{valueOf}
+use Rattle.model.specs.Events.{pm1}
 use Rattle.model.specs.Raises.{raises, gpeRaises}
 use Rattle.model.specs.declared.Step.{Step}
 use Rattle.model.specs.declared.Step.the-variants as step
@@ -74,7 +75,7 @@ module _ (stepped : Stepping) (m : Machine) (r : Round) where
 
   -- "the value read from its home shows" the bit, at its place in the register
   abbrev pub shownDigit : ℕ → ℕ
-  shownDigit i = digit i (placed (r .offset) (cond (livesInB (m .settings) (2 ^ i)) valueB valueA))
+  shownDigit i = digit i (placed (r .offset) (cond (livesInB (m .settings) (pm1 i)) valueB valueA))
 
   -- "unless it is a PM1 bit that the value read from its home shows"
   abbrev pub Unshown : ℕ → Type 0

@@ -2,39 +2,14 @@
 use mathlib.Core.Path.{_≡_, sym, _∙_, ap}
 use borrow.Author.Needs.{needs}
 use Rattle.platform.specs.declared.settings.Settings.{Settings}
+use Rattle.machine.specs.Fields.{withSettings}
 use Rattle.machine.specs.declared.Machine.{Machine}
 use Rattle.model.specs.Step.{stepOf}
 use Rattle.model.specs.declared.Step.{Step}
 use Rattle.model.specs.declared.Stepped.{Stepped}
-use Rattle.model.proofs.Steps.{settings-kept}
+use Rattle.model.proofs.Settings.{settings-kept}
 use Rattle.step.proofs.step.Statement.{statement}
 use Rattle.step.proofs.step.Tie as tie
-
--- the machine with other settings
-abbrev withSettings : Machine → Settings → Machine
-withSettings m s =
-    record {
-      settings = s;
-      «pm1_sts» = m .«pm1_sts»;
-      «pm1_en» = m .«pm1_en»;
-      «gpe0_sts» = m .«gpe0_sts»;
-      «gpe0_en» = m .«gpe0_en»;
-      «gpe1_sts» = m .«gpe1_sts»;
-      «gpe1_en» = m .«gpe1_en»;
-      counter = m .counter;
-      hold = m .hold;
-      button = m .button;
-      «command_waits» = m .«command_waits»;
-      command = m .command;
-      «gbl_rls» = m .«gbl_rls»;
-      armed = m .armed;
-      «slp_typ_a» = m .«slp_typ_a»;
-      «slp_typ_b» = m .«slp_typ_b»;
-      «sci_en» = m .«sci_en»;
-      «bm_rld» = m .«bm_rld»;
-      «arb_dis» = m .«arb_dis»;
-      state = m .state;
-    }
 
 abbrev given : Stepped → Settings → Stepped
 given g s = record { answer = g .answer; machine = withSettings (g .machine) s }
