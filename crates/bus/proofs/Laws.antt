@@ -1,23 +1,26 @@
 -- What the tests on the way to a cell say of the offset and of what is written. Assumes nothing.
-use mathlib.Core.Bool.{Bool, true, false, cond}
+use mathlib.Core.Bool.{Bool, true, false, cond, and-false, or-false}
 use mathlib.Core.Path.{_≡_, refl, sym, _∙_, ap, ap₂}
 use Prim.Native.Nat.{ℕ, _+_, _-_, _%_, _^_, _≤_, _<_}
+use native.Mathlib.Nat.{zero-div}
 use native.Mathlib.Omega.{arith}
-use borrow.Author.Tests.{eqb-true, ltb-true, not-false}
+use borrow.Author.Tests.{eqb-true, ne-eqb, ltb-true, le-ltb, not-false}
 use lib.Dec.{eqb}
 use Rattle.lists.specs.Any.{any}
 use Rattle.lists.proofs.Tests.{or-left}
 use Rattle.platform.specs.declared.settings.Settings.{Settings}
-use Rattle.machine.specs.Cells.{gpeHalf, inGpeStatus, gpeStsCleared, gpeEnTaken, gpeStsAfter, gpeEnAfter}
+use Rattle.bits.specs.Cell.{byteAt}
+use Rattle.machine.specs.Cells.{laneAt, oneByte, shown, inStatus, inEnable, statusAfter, enableAfter, coversLow, coversHigh, gpeHalf, inGpeStatus, gpeStsCleared, gpeEnTaken, gpeStsAfter, gpeEnAfter}
 use Rattle.machine.specs.declared.Machine.{Machine}
 use Rattle.machine.specs.Fields.{withGpe}
 use Rattle.model.specs.Answer.{firstApplying}
-use Rattle.model.specs.Bus.{dataTooWide, namesNone, gpeWritten, writeOf}
+use Rattle.model.specs.Bus.{dataTooWide, setsSlpEn, typAfter, completes, armedAfter, namesNone, bmRldAfter, gblRlsAfter, gpeWritten, readOf, writeOf}
 use Rattle.model.specs.Step.{registerOf, offsetOf, writeLines, answerTo, accepted, stepOf}
 use Rattle.model.specs.declared.Access.{Access}
 use Rattle.model.specs.declared.Answer.{Answer}
 use Rattle.model.specs.declared.Answer.the-variants as answer
 use Rattle.model.specs.declared.Register.{Register}
+use Rattle.model.specs.declared.Register.the-variants as register
 use Rattle.model.specs.declared.Step.the-variants as step
 use Rattle.model.specs.declared.Stepped.{Stepped}
 use Rattle.model.proofs.Steps.{zero-exactly, accepted-does, refused-stays}
@@ -119,3 +122,45 @@ module _ (m : Machine) (a : Access) (written : ℕ) (r : Register) (offset : ℕ
   write-refused p q e t =
       let same = answered p q e in
       ap₂ stepped same (sym (refused-stays m (step.Write a written) (ap accepted (sym same) ∙ t)))
+
+-- ---- past the bytes of a PM1 register
+
+-- none of the first four offsets, or of the first two
+pub past-four : (p : ℕ) → (p ≡ 0 → ⊥) → (p ≡ 1 → ⊥) → (p ≡ 2 → ⊥) → (p ≡ 3 → ⊥) → 4 ≤ p
+past-four p a b c d = omega arith
+
+pub past-two : (p : ℕ) → (p ≡ 0 → ⊥) → (p ≡ 1 → ⊥) → 2 ≤ p
+past-two p a b = omega arith
+
+-- nothing shows of no bits
+shown-nothing : (width offset : ℕ) → shown width offset 0 ≡ 0
+shown-nothing width offset = go (oneByte width offset)
+  where
+    go : (t : Bool) → cond t (byteAt (laneAt offset) 0) 0 ≡ 0
+    go true = rw zero-div refl
+    go false = refl
+
+module _ (m : Machine) (r : Register) (b : Bool) (width offset : ℕ) where
+  pub event-read-past : r ≡ register.Pm1Evt b → 4 ≤ offset → 0 ≡ readOf m r width offset
+  unfolding readOf inStatus inEnable
+  event-read-past e h =
+      let past : 2 ≤ offset = omega arith in
+      rw (e, le-ltb offset 2 past, le-ltb offset 4 h, and-false) (sym (shown-nothing width offset))
+
+  pub control-read-past : r ≡ register.Pm1Cnt b → 2 ≤ offset → 0 ≡ readOf m r width offset
+  unfolding readOf
+  control-read-past e h = rw (e, le-ltb offset 2 h) (sym (shown-nothing width offset))
+
+  module _ (written : ℕ) where
+    pub event-write-past : r ≡ register.Pm1Evt b → 4 ≤ offset → m ≡ writeOf m r width offset written
+    unfolding writeOf statusAfter enableAfter inStatus inEnable
+    event-write-past e h =
+        let past : 2 ≤ offset = omega arith in
+        rw (e, le-ltb offset 2 past, le-ltb offset 4 h, and-false) refl
+
+    pub control-write-past : r ≡ register.Pm1Cnt b → 2 ≤ offset → m ≡ writeOf m r width offset written
+    unfolding writeOf completes setsSlpEn typAfter armedAfter bmRldAfter gblRlsAfter coversLow coversHigh
+    control-write-past e h =
+        let low : eqb offset 0 ≡ false = ne-eqb offset 0 (λ e. omega arith) in
+        let high : eqb offset 1 ≡ false = ne-eqb offset 1 (λ e. omega arith) in
+        simp (e, low, high, and-false, or-false)

@@ -1,17 +1,17 @@
 // What a read gives and a write does: one match on the register kind and the offset chooses the byte's cell rule.
 use bits::pick32;
 use bits::pick64;
-use control::write_control;
 use machine::GPE_BYTES;
 use machine::Machine;
 use model::Register;
 use platform::Settings;
-use registers::shown;
+use registers::read_high;
+use registers::read_low;
 ghost use mathlib.Core.Path.{_≡_};
 ghost use mathlib.Core.Bool.{cond, true};
 ghost use Rattle.bus.specs.Cells.{gpeCell};
 ghost use Rattle.machine.specs.Fields.{withEvent, withGpe, withCommand, withArbDis};
-ghost use Rattle.model.specs.Bus.{readOf, writeOf};
+ghost use Rattle.model.specs.Bus.{timerRegister, readOf, writeOf};
 
 // A GPE block's bytes as cells, since a length is a byte: status bytes from 0 on, enable bytes from 256 on.
 fn gpe_cell(s: Settings, b: bool, offset: u64) -> u64
@@ -25,6 +25,14 @@ fn gpe_cell(s: Settings, b: bool, offset: u64) -> u64
     )
 }
 
+// The counter has 32 bits or 24.
+fn timer_register(m: Machine) -> u32
+    ensures { λ r. ⌜ r ≡ timerRegister m ⌝ }
+{
+    let s = m.settings;
+    pick32(platform::wide_timer(s), m.counter, m.counter % 0x1000000)
+}
+
 pub(crate) fn read_cells(m: Machine, r: Register, width: u32, offset: u64) -> u32
     ensures { λ result. ⌜ result ≡ readOf m r width offset ⌝ }
 {
@@ -32,12 +40,19 @@ pub(crate) fn read_cells(m: Machine, r: Register, width: u32, offset: u64) -> u3
     match r {
         Register::SmiCmd => 0,
         Register::Pm1Evt(b) => match offset {
-            0..=1 => shown(width, offset, registers::status_register(m, b) as u32),
-            _ => shown(width, offset, registers::enable_register(m, b) as u32),
+            0 => read_low(width, registers::status_register(m, b) as u32),
+            1 => read_high(registers::status_register(m, b) as u32),
+            2 => read_low(width, registers::enable_register(m, b) as u32),
+            3 => read_high(registers::enable_register(m, b) as u32),
+            _ => 0,
         },
-        Register::Pm1Cnt(b) => shown(width, offset, registers::control_register(m, b)),
+        Register::Pm1Cnt(b) => match offset {
+            0 => read_low(width, registers::control_register(m, b)),
+            1 => read_high(registers::control_register(m, b)),
+            _ => 0,
+        },
         Register::Pm2Cnt => pick32(m.arb_dis, 1, 0),
-        Register::PmTmr => m.counter,
+        Register::PmTmr => timer_register(m),
         Register::Gpe(b) => {
             let cell = gpe_cell(s, b, offset);
             match cell {
@@ -105,16 +120,17 @@ pub(crate) fn write_cells(m: Machine, r: Register, width: u32, offset: u64, writ
     match r {
         Register::SmiCmd => latch(m, registers::low_byte(written)),
         Register::Pm1Evt(b) => match offset {
-            0..=1 => {
-                let sts = registers::status_cleared(m, b, width, offset, written);
-                with_event(m, sts, m.pm1_en)
-            }
-            _ => {
-                let en = registers::enable_taken(m, b, width, offset, written);
-                with_event(m, m.pm1_sts, en)
-            }
+            0 => with_event(m, registers::status_low(m, b, width, written), m.pm1_en),
+            1 => with_event(m, registers::status_high(m, b, written), m.pm1_en),
+            2 => with_event(m, m.pm1_sts, registers::enable_low(m, b, width, written)),
+            3 => with_event(m, m.pm1_sts, registers::enable_high(m, b, written)),
+            _ => m,
         },
-        Register::Pm1Cnt(b) => write_control(m, b, width, offset, written),
+        Register::Pm1Cnt(b) => match offset {
+            0 => control::write_low(m, b, width, written),
+            1 => control::write_high(m, b, written),
+            _ => m,
+        },
         Register::Pm2Cnt => with_arb_dis(m, written % 2 == 1),
         Register::PmTmr => m,
         Register::Gpe(b) => {

@@ -15,8 +15,7 @@ use ports::command_lost;
 use ports::data_too_wide;
 use ports::is_timer;
 use ports::leads_nowhere;
-use ports::offset_at;
-use ports::register_at;
+use ports::walk;
 use ports::wrong_width;
 ghost use mathlib.Core.Path.{_≡_};
 ghost use Prim.Native.Nat.{_%_, _^_};
@@ -54,8 +53,9 @@ pub fn read(m: Machine, access: Access) -> Stepped
     let s = m.settings;
     let port = access.port;
     let width = access.width;
-    let r = register_at(s, port);
-    let offset = offset_at(s, port);
+    let place = walk(s, port);
+    let r = place.register;
+    let offset = place.offset;
     let answer = read_answer(m, r, width, offset);
     Stepped { answer, machine: m }
 }
@@ -108,8 +108,9 @@ pub fn write(m: Machine, access: Access, written: u64) -> Stepped
     let s = m.settings;
     let port = access.port;
     let width = access.width;
-    let r = register_at(s, port);
-    let offset = offset_at(s, port);
+    let place = walk(s, port);
+    let r = place.register;
+    let offset = place.offset;
     let answer = write_answer(m, r, width, offset, written);
     if model::accepted(answer) {
         let machine = write_cells(m, r, width, offset, low(written));

@@ -86,28 +86,27 @@ pub fn names_none(m: Machine, r: Register, width: u32, offset: u64, written: u32
     }
 }
 
-fn bm_rld_after(m: Machine, b: bool, width: u32, offset: u64, written: u32) -> bool
-    ensures { λ r. ⌜ r ≡ bmRldAfter m b width offset written ⌝ }
+fn bm_rld_after(m: Machine, b: bool, offset: u64, written: u32) -> bool
+    ensures { λ r. ⌜ r ≡ bmRldAfter m b offset written ⌝ }
 {
     let s = m.settings;
-    let taken = covers_low(width, offset) & control_in(s, b, 1);
+    let taken = covers_low(offset) & control_in(s, b, 1);
     pick_bool(taken, written_bit(offset, written, 1), m.bm_rld)
 }
 
-fn gbl_rls_after(m: Machine, b: bool, width: u32, offset: u64, written: u32) -> bool
-    ensures { λ r. ⌜ r ≡ gblRlsAfter m b width offset written ⌝ }
+fn gbl_rls_after(m: Machine, b: bool, offset: u64, written: u32) -> bool
+    ensures { λ r. ⌜ r ≡ gblRlsAfter m b offset written ⌝ }
 {
     let s = m.settings;
-    m.gbl_rls
-        | (covers_low(width, offset) & (control_in(s, b, 2) & written_bit(offset, written, 2)))
+    m.gbl_rls | (covers_low(offset) & (control_in(s, b, 2) & written_bit(offset, written, 2)))
 }
 
 // The cells after a control write, before any sleep.
 fn controlled(mut m: Machine, b: bool, width: u32, offset: u64, written: u32) -> Machine
     ensures { λ r. ⌜ r ≡ controlled m b width offset written ⌝ }
 {
-    let bm_rld = bm_rld_after(m, b, width, offset, written);
-    let gbl_rls = gbl_rls_after(m, b, width, offset, written);
+    let bm_rld = bm_rld_after(m, b, offset, written);
+    let gbl_rls = gbl_rls_after(m, b, offset, written);
     let slp_typ_a = typ_after(m, b, false, width, offset, written);
     let slp_typ_b = typ_after(m, b, true, width, offset, written);
     let armed = armed_after(m, b, width, offset, written);
@@ -119,8 +118,8 @@ fn controlled(mut m: Machine, b: bool, width: u32, offset: u64, written: u32) ->
     m
 }
 
-// .. and the sleep that it completes.
-pub fn write_control(m: Machine, b: bool, width: u32, offset: u64, written: u32) -> Machine
+// What a write of the register does, with the sleep that it completes.
+fn write_control(m: Machine, b: bool, width: u32, offset: u64, written: u32) -> Machine
     ensures { λ r. ⌜ r ≡ controlWritten m b width offset written ⌝ }
 {
     let next = controlled(m, b, width, offset, written);
@@ -129,4 +128,18 @@ pub fn write_control(m: Machine, b: bool, width: u32, offset: u64, written: u32)
     } else {
         next
     }
+}
+
+// A write at the register's first byte: that byte, or with two bytes the register.
+pub fn write_low(m: Machine, b: bool, width: u32, written: u32) -> Machine
+    ensures { λ r. ⌜ r ≡ controlWritten m b width 0 written ⌝ }
+{
+    write_control(m, b, width, 0, written)
+}
+
+// A write at its second byte.
+pub fn write_high(m: Machine, b: bool, written: u32) -> Machine
+    ensures { λ r. ⌜ r ≡ controlWritten m b 1 1 written ⌝ }
+{
+    write_control(m, b, 1, 1, written)
 }

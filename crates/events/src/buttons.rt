@@ -1,7 +1,10 @@
 // The power and sleep buttons, the alarm, and PCIe wake.
 use machine::Machine;
 use machine::PCIEXP_WAKE;
+use machine::PCIEXP_WAKE_STS;
 use machine::PWRBTN;
+use machine::PWRBTN_STS;
+use machine::WakeSource;
 use machine::has_bit;
 use machine::is_sleeping;
 use machine::wake_bits;
@@ -11,7 +14,9 @@ ghost use mathlib.Core.Bool.{true, cond};
 ghost use Rattle.machine.specs.Cells.{pwrbtnBit};
 ghost use Rattle.machine.specs.Fields.{withButton};
 ghost use Rattle.machine.specs.Sleep.{restarted, wokenIf};
-ghost use Rattle.model.specs.Events.{fits, raised, inS5, pressOf, releaseOf, signalWakes, signalOf, pcieWakes, pcieWakeOf};
+ghost use Prim.Native.Nat.{_^_};
+ghost use Rattle.model.specs.Events.{pm1, eventSource, fits, raised, inS5, pressOf, releaseOf, signalWakes, signalOf, pcieWakes, pcieWakeOf};
+ghost use Rattle.model.specs.declared.Event.the-variants as event;
 
 pub(crate) fn fits(s: Settings, bit: u16) -> bool
     ensures { λ r. ⌜ r ≡ fits s bit ⌝ }
@@ -35,12 +40,12 @@ pub(crate) fn in_s5(m: Machine) -> bool
 
 // A press wakes: from S5 to a machine started anew, from S1 to S4 with its registers kept.
 fn roused(m: Machine) -> Machine
-    ensures { λ r. ⌜ r ≡ cond (inS5 m) (restarted m) (wokenIf true m) ⌝ }
+    ensures { λ r. ⌜ r ≡ cond (inS5 m) (restarted m) (wokenIf (eventSource event.Press) true m) ⌝ }
 {
     if in_s5(m) {
         m.restart()
     } else {
-        m.wake_if(true)
+        m.wake_if(WakeSource::Pm1(PWRBTN_STS), true)
     }
 }
 
@@ -76,14 +81,15 @@ fn signal_wakes(m: Machine, bit: u16) -> bool
     has_bit(m.pm1_en, bit) & has_bit(wake_bits(s, m.state), bit)
 }
 
-// A sleep press or an alarm: its bit is set, and may wake. In S5 it does nothing.
-pub(crate) fn signal(m: Machine, bit: u16) -> Machine
-    ensures { λ r. ⌜ r ≡ signalOf m bit ⌝ }
+// A sleep press or an alarm: its bit, with the number i, is set, and may wake. In S5 it does nothing.
+pub(crate) fn signal(m: Machine, i: u8, bit: u16) -> Machine
+    requires { ⌜ bit ≡ 2 ^ i ⌝ }
+    ensures { λ r. ⌜ r ≡ signalOf m (pm1 i) ⌝ }
 {
     if in_s5(m) {
         m
     } else {
-        raise(m, bit).wake_if(signal_wakes(m, bit))
+        raise(m, bit).wake_if(WakeSource::Pm1(i), signal_wakes(m, bit))
     }
 }
 
@@ -99,7 +105,7 @@ pub(crate) fn pcie_wake(m: Machine) -> Machine
     ensures { λ r. ⌜ r ≡ pcieWakeOf m ⌝ }
 {
     if pcie_wakes(m) {
-        raise(m, PCIEXP_WAKE).wake_if(true)
+        raise(m, PCIEXP_WAKE).wake_if(WakeSource::Pm1(PCIEXP_WAKE_STS), true)
     } else {
         m
     }

@@ -2,6 +2,7 @@
 use crate::buttons::in_s5;
 use machine::GPE_BYTES;
 use machine::Machine;
+use machine::WakeSource;
 use machine::has_bit8;
 use platform::Settings;
 ghost use mathlib.Core.Path.{_≡_};
@@ -107,6 +108,6 @@ pub(crate) fn general(m: Machine, k: u32) -> Machine
     if in_s5(m) {
         m
     } else {
-        general_raised(m, k).wake_if(general_enabled(m, k))
+        general_raised(m, k).wake_if(WakeSource::Gpe(k), general_enabled(m, k))
     }
 }

@@ -18,7 +18,9 @@ use machine::Machine;
 use machine::PCIEXP_WAKE;
 use machine::PWRBTN;
 use machine::RTC;
+use machine::RTC_STS;
 use machine::SLPBTN;
+use machine::SLPBTN_STS;
 use machine::awake;
 use model::Answer;
 use model::Event;
@@ -43,8 +45,8 @@ fn done(m: Machine, e: Event) -> Machine
     match e {
         Event::Press => press(m),
         Event::Release => release(m),
-        Event::SleepPress => signal(m, SLPBTN),
-        Event::Alarm => signal(m, RTC),
+        Event::SleepPress => signal(m, SLPBTN_STS, SLPBTN),
+        Event::Alarm => signal(m, RTC_STS, RTC),
         Event::PcieWake => pcie_wake(m),
         Event::BusMaster => raise(m, BM),
         Event::Unlock => raise(m, GBL),

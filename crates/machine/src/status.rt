@@ -18,6 +18,15 @@ pub const PCIEXP_WAKE: u16 = 0x4000;
 
 pub const WAK: u16 = 0x8000;
 
+// The numbers of those that wake.
+pub const PWRBTN_STS: u8 = 8;
+
+pub const SLPBTN_STS: u8 = 9;
+
+pub const RTC_STS: u8 = 10;
+
+pub const PCIEXP_WAKE_STS: u8 = 14;
+
 pub fn has_bit(mask: u16, bit: u16) -> bool
     ensures { λ r. ⌜ r ≡ hasBit mask bit ⌝ }
 {

@@ -8,7 +8,7 @@ use Rattle.lists.specs.Any.{firstAt}
 use Rattle.cells.specs.Cells.{flagOf, bitAt, maskOf}
 use Rattle.clock.specs.AtOnce.{overridden, ranOf, counterAfter, turnsIn, holdAfter}
 use Rattle.platform.specs.Blocks.{present, holds}
-use Rattle.machine.specs.Cells.{hasBit, inStatus, statusAfter, enableAfter, controlIn, coversLow, coversHigh, writtenBit}
+use Rattle.machine.specs.Cells.{hasBit, inStatus, inEnable, statusAfter, enableAfter, controlIn, coversLow, coversHigh, writtenBit}
 use Rattle.machine.specs.Lines.{awake}
 use Rattle.machine.specs.Sleep.{isSleeping}
 use Rattle.model.specs.Answer.{firstApplying}
@@ -37,7 +37,7 @@ each-holds (x ∷ rs) e r (List·Memᴰ·tail at) = each-holds rs (and-right (ro
 
 -- the test over the whole list
 pub rows-pass : allHold rows ≡ true
-unfolding allHold stepsHold sameRegisters afterAtOnce answerTo firstApplying awake wrongWidth dataTooWide leadsNowhere allowed isTimer commandLost namesNone readOf writeOf setsSlpEn typAfter completes bmRldAfter registerAt offsetAt firstAt holds present hasBit inStatus statusAfter enableAfter controlIn coversLow coversHigh writtenBit maskOf flagOf bitAt timed tmrRaised overridden ranOf counterAfter turnsIn holdAfter pressOf inS5 isSleeping eventOf
+unfolding allHold stepsHold sameRegisters afterAtOnce answerTo firstApplying awake wrongWidth dataTooWide leadsNowhere allowed isTimer commandLost namesNone readOf writeOf setsSlpEn typAfter completes bmRldAfter registerAt offsetAt firstAt holds present hasBit inStatus inEnable statusAfter enableAfter controlIn coversLow coversHigh writtenBit maskOf flagOf bitAt timed tmrRaised overridden ranOf counterAfter turnsIn holdAfter pressOf inS5 isSleeping eventOf
 rows-pass = refl
 
 -- the marked cases: what each row of the list claims of `stepOf` holds

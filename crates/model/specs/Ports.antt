@@ -8,6 +8,7 @@ use Rattle.platform.specs.Blocks.{holds}
 use Rattle.platform.specs.Legal.{blockAt}
 use Rattle.platform.specs.Rules.{blocksOf}
 use Rattle.platform.specs.declared.settings.Settings.{Settings}
+use Rattle.model.specs.declared.Place.{Place}
 use Rattle.model.specs.declared.Register.{Register}
 use Rattle.model.specs.declared.Register.the-variants as register
 
@@ -29,10 +30,12 @@ registers =
 abbrev pub placeAt : Settings → ℕ → ℕ
 placeAt s port = firstAt (λ b. holds b port) (blocksOf s)
 
--- the register that the port leads to
-unfoldable pub registerAt : Settings → ℕ → Register
-registerAt s port = getD registers (placeAt s port) register.Nowhere
+-- one walk over the blocks: the register that the port leads to, and the port's offset in its block
+abbrev pub walk : Settings → ℕ → Place
+walk s port = record { register = getD registers (placeAt s port) register.Nowhere; offset = port - blockAt s (placeAt s port) .address }
 
--- the port's offset in its block
+unfoldable pub registerAt : Settings → ℕ → Register
+registerAt s port = walk s port .register
+
 unfoldable pub offsetAt : Settings → ℕ → ℕ
-offsetAt s port = port - blockAt s (placeAt s port) .address
+offsetAt s port = walk s port .offset

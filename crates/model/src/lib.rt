@@ -73,6 +73,12 @@ pub enum Register {
     Nowhere,
 }
 
+// The register that a port leads to, and the port's offset in its block.
+pub struct Place {
+    pub register: Register,
+    pub offset: u64,
+}
+
 // Document 01's number of an answer, and its value.
 pub fn number(a: Answer) -> u8
     ensures { λ r. ⌜ r ≡ numberOf a ⌝ }

@@ -2,8 +2,7 @@
 mod map;
 mod tests;
 
-pub use map::offset_at;
-pub use map::register_at;
+pub use map::walk;
 pub use tests::allowed;
 pub use tests::command_lost;
 pub use tests::data_too_wide;

@@ -1,11 +1,15 @@
 // Where a port leads.
+use model::Place;
 use model::Register;
 use platform::Block;
 use platform::Settings;
 ghost use mathlib.Core.Path.{_≡_};
 ghost use Rattle.lists.specs.Any.{firstAt};
-ghost use Rattle.platform.specs.Blocks.{holds};
-ghost use Rattle.model.specs.Ports.{placeAt, registerAt, offsetAt};
+ghost use Prim.Native.Nat.{_-_};
+ghost use lib.ListN.{getD};
+ghost use Rattle.platform.specs.Blocks.{holds, noBlock};
+ghost use Rattle.model.specs.Ports.{registers, walk};
+ghost use Rattle.model.specs.declared.Register.the-variants as register;
 
 // The first of the blocks that holds the port, by its place; 9 where none does.
 fn first_holding(bs: [Block; 9], port: u64) -> usize
@@ -21,17 +25,11 @@ fn first_holding(bs: [Block; 9], port: u64) -> usize
     i
 }
 
-fn place_at(s: Settings, port: u64) -> usize
-    ensures { λ r. ⌜ r ≡ placeAt s port ⌝ }
+// The blocks' registers, in the blocks' order.
+fn register_of(place: usize) -> Register
+    ensures { λ r. ⌜ r ≡ getD registers place register.Nowhere ⌝ }
 {
-    first_holding(platform::blocks(s), port)
-}
-
-pub fn register_at(s: Settings, port: u64) -> Register
-    ensures { λ r. ⌜ r ≡ registerAt s port ⌝ }
-{
-    let i = place_at(s, port);
-    match i {
+    match place {
         0 => Register::SmiCmd,
         1 => Register::Pm1Evt(false),
         2 => Register::Pm1Evt(true),
@@ -45,14 +43,24 @@ pub fn register_at(s: Settings, port: u64) -> Register
     }
 }
 
-pub fn offset_at(s: Settings, port: u64) -> u64
-    ensures { λ r. ⌜ r ≡ offsetAt s port ⌝ }
+// How far the port lies past its block's first; past the last block, from port zero.
+fn offset_in(bs: [Block; 9], place: usize, port: u64) -> u64
+    ensures { λ r. ⌜ r ≡ port - getD bs place noBlock .address ⌝ }
 {
-    let bs = platform::blocks(s);
-    let i = place_at(s, port);
-    if i < 9 {
-        platform::offset(bs[i], port)
+    if place < 9 {
+        platform::offset(bs[place], port)
     } else {
         port
     }
+}
+
+// One walk over the blocks: the register that the port leads to, and the port's offset in its block.
+pub fn walk(s: Settings, port: u64) -> Place
+    ensures { λ r. ⌜ r ≡ walk s port ⌝ }
+{
+    let bs = platform::blocks(s);
+    let place = first_holding(bs, port);
+    let register = register_of(place);
+    let offset = offset_in(bs, place, port);
+    Place { register, offset }
 }

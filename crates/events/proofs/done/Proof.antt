@@ -1,4 +1,4 @@
--- `events::done` meets its contract: each arm does what the definition's line for that event says. Assumes nothing.
+-- `events::done` meets its contract: what its calls and tests say, put together, is the definition. Assumes nothing.
 use Rattle.model.specs.Events.{eventOf}
 use borrow.Author.Needs.{needs}
 use Rattle.events.proofs.done.Statement.{statement}

@@ -1,9 +1,8 @@
--- `bus::cell_rules::read_cells` meets its contract: what its calls and tests say, put together, is the definition. Assumes nothing.
+-- `bus::cell_rules::read_cells` meets its contract: each arm is the rule of its byte, and past a register's bytes nothing shows. Assumes nothing.
 use Rattle.model.specs.Bus.{readOf}
 use borrow.Author.Needs.{needs}
-use borrow.Author.Tests.{lt-ltb, le-ltb}
-use Rattle.bus.proofs.Laws.{cell-in-status, cell-past-status}
-use Rattle.machine.specs.Cells.{inStatus}
+use Rattle.machine.specs.Cells.{inStatus, inEnable}
+use Rattle.bus.proofs.Laws.{cell-in-status, cell-past-status, past-four, past-two, event-read-past, control-read-past}
 use Rattle.bus.proofs.cell_rules.read_cells.Statement.{statement}
 use Rattle.bus.proofs.cell_rules.read_cells.Tie as tie
 
@@ -16,20 +15,38 @@ enum-known-r c = search needs
 status-register-requires : tie.Need-status-register-requires
 status-register-requires c κs = search needs
 
-cast-shown : tie.Need-cast-shown
-cast-shown c = search needs
+cast-read-low : tie.Need-cast-read-low
+cast-read-low c = search needs
 
-shown-requires : tie.Need-shown-requires
-shown-requires c κs = search needs
+read-low-requires : tie.Need-read-low-requires
+read-low-requires c κs = search needs
+
+status-register-requires-2 : tie.Need-status-register-requires-2
+status-register-requires-2 c κs = search needs
+
+cast-read-high : tie.Need-cast-read-high
+cast-read-high c = search needs
+
+read-high-requires : tie.Need-read-high-requires
+read-high-requires c κs = search needs
 
 enable-register-requires : tie.Need-enable-register-requires
 enable-register-requires c κs = search needs
 
-cast-shown-2 : tie.Need-cast-shown-2
-cast-shown-2 c = search needs
+cast-read-low-2 : tie.Need-cast-read-low-2
+cast-read-low-2 c = search needs
 
-shown-requires-2 : tie.Need-shown-requires-2
-shown-requires-2 c κs = search needs
+read-low-requires-2 : tie.Need-read-low-requires-2
+read-low-requires-2 c κs = search needs
+
+enable-register-requires-2 : tie.Need-enable-register-requires-2
+enable-register-requires-2 c κs = search needs
+
+cast-read-high-2 : tie.Need-cast-read-high-2
+cast-read-high-2 c = search needs
+
+read-high-requires-2 : tie.Need-read-high-requires-2
+read-high-requires-2 c κs = search needs
 
 enum-known-r-2 : tie.Need-enum-known-r-2
 enum-known-r-2 c = search needs
@@ -37,8 +54,14 @@ enum-known-r-2 c = search needs
 control-register-requires : tie.Need-control-register-requires
 control-register-requires c κs = search needs
 
-shown-requires-3 : tie.Need-shown-requires-3
-shown-requires-3 c κs = search needs
+read-low-requires-3 : tie.Need-read-low-requires-3
+read-low-requires-3 c κs = search needs
+
+control-register-requires-2 : tie.Need-control-register-requires-2
+control-register-requires-2 c κs = search needs
+
+read-high-requires-3 : tie.Need-read-high-requires-3
+read-high-requires-3 c κs = search needs
 
 enum-told-2 : tie.Need-enum-told-2
 enum-told-2 c = search needs
@@ -48,6 +71,9 @@ pick32-requires c κs = search needs
 
 enum-told-3 : tie.Need-enum-told-3
 enum-told-3 c = search needs
+
+timer-register-requires : tie.Need-timer-register-requires
+timer-register-requires c κs = search needs
 
 enum-known-r-3 : tie.Need-enum-known-r-3
 enum-known-r-3 c = search needs
@@ -75,36 +101,54 @@ unfolding readOf
 returns c = simp (c .enum-told .given .1)
 
 returns-2 : tie.Need-returns-2
-unfolding readOf inStatus
-returns-2 c = simp (c .shown .ensures, c .before .status-register .ensures, lt-ltb _ _ (c .before .before .if1 .taken), c .before .before .before .before .r .given .1)
+unfolding readOf inStatus inEnable
+returns-2 c = simp (c .read-low .ensures, c .before .status-register .ensures, c .before .before .before .before .r .given .1, c .before .before .match2 .keys1)
 
 returns-3 : tie.Need-returns-3
-unfolding readOf inStatus
-returns-3 c = simp (c .shown2 .ensures, c .before .enable-register .ensures, le-ltb _ _ (c .before .before .if1 .left), c .before .before .before .before .r .given .1)
+unfolding readOf inStatus inEnable
+returns-3 c = simp (c .read-high .ensures, c .before .status-register2 .ensures, c .before .before .before .before .r .given .1, c .before .before .match2 .keys2)
 
 returns-4 : tie.Need-returns-4
-unfolding readOf
-returns-4 c = simp (c .shown3 .ensures, c .before .control-register .ensures, c .before .before .before .r2 .given .1)
+unfolding readOf inStatus inEnable
+returns-4 c = simp (c .read-low2 .ensures, c .before .enable-register .ensures, c .before .before .before .before .r .given .1, c .before .before .match2 .keys3)
 
 returns-5 : tie.Need-returns-5
-unfolding readOf
-returns-5 c = simp (c .pick32 .ensures, c .before .enum-told2 .given .1)
+unfolding readOf inStatus inEnable
+returns-5 c = simp (c .read-high2 .ensures, c .before .enable-register2 .ensures, c .before .before .before .before .r .given .1, c .before .before .match2 .keys4)
 
 returns-6 : tie.Need-returns-6
-unfolding readOf
-returns-6 c = simp (c .enum-told3 .given .1)
+returns-6 c = let q : _ = c .match2 .rest in event-read-past _ _ _ _ _ (c .before .before .r .given .1) (past-four _ (q .0 .0 .0 .1) (q .0 .0 .1) (q .0 .1) (q .1))
 
 returns-7 : tie.Need-returns-7
 unfolding readOf
-returns-7 c = simp (c .gpe-sts-byte .ensures, cell-in-status _ _ _ _ (c .before .before .gpe-cell .ensures) (c .before .if2 .taken), c .before .before .before .before .r3 .given .1)
+returns-7 c = simp (c .read-low3 .ensures, c .before .control-register .ensures, c .before .before .before .before .r2 .given .1, c .before .before .match3 .keys1)
 
 returns-8 : tie.Need-returns-8
 unfolding readOf
-returns-8 c = simp (c .gpe-en-byte .ensures, cell-past-status _ _ _ _ (c .before .before .gpe-cell .ensures) (c .before .if2 .left), c .before .before .before .before .r3 .given .1)
+returns-8 c = simp (c .read-high3 .ensures, c .before .control-register2 .ensures, c .before .before .before .before .r2 .given .1, c .before .before .match3 .keys2)
 
 returns-9 : tie.Need-returns-9
+returns-9 c = let q : _ = c .match3 .rest in control-read-past _ _ _ _ _ (c .before .before .r2 .given .1) (past-two _ (q .0 .1) (q .1))
+
+returns-10 : tie.Need-returns-10
 unfolding readOf
-returns-9 c = simp (c .enum-told4 .given .1)
+returns-10 c = simp (c .pick32 .ensures, c .before .enum-told2 .given .1)
+
+returns-11 : tie.Need-returns-11
+unfolding readOf
+returns-11 c = simp (c .timer-register .ensures, c .before .enum-told3 .given .1)
+
+returns-12 : tie.Need-returns-12
+unfolding readOf
+returns-12 c = simp (c .gpe-sts-byte .ensures, cell-in-status _ _ _ _ (c .before .before .gpe-cell .ensures) (c .before .if1 .taken), c .before .before .before .before .r3 .given .1)
+
+returns-13 : tie.Need-returns-13
+unfolding readOf
+returns-13 c = simp (c .gpe-en-byte .ensures, cell-past-status _ _ _ _ (c .before .before .gpe-cell .ensures) (c .before .if1 .left), c .before .before .before .before .r3 .given .1)
+
+returns-14 : tie.Need-returns-14
+unfolding readOf
+returns-14 c = simp (c .enum-told4 .given .1)
 
 pub read-cells-spec : {M : Type 1} → statement M
 read-cells-spec =
@@ -113,17 +157,26 @@ read-cells-spec =
     enum-told
     enum-known-r
     status-register-requires
-    cast-shown
-    shown-requires
+    cast-read-low
+    read-low-requires
+    status-register-requires-2
+    cast-read-high
+    read-high-requires
     enable-register-requires
-    cast-shown-2
-    shown-requires-2
+    cast-read-low-2
+    read-low-requires-2
+    enable-register-requires-2
+    cast-read-high-2
+    read-high-requires-2
     enum-known-r-2
     control-register-requires
-    shown-requires-3
+    read-low-requires-3
+    control-register-requires-2
+    read-high-requires-3
     enum-told-2
     pick32-requires
     enum-told-3
+    timer-register-requires
     enum-known-r-3
     gpe-cell-requires
     gpe-sts-byte-requires
@@ -139,4 +192,9 @@ read-cells-spec =
     returns-6
     returns-7
     returns-8
-    returns-9)
+    returns-9
+    returns-10
+    returns-11
+    returns-12
+    returns-13
+    returns-14)

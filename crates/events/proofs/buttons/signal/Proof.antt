@@ -1,7 +1,7 @@
 -- `events::buttons::signal` meets its contract: what its calls and tests say, put together, is the definition. Assumes nothing.
 use mathlib.Core.Path.{sym, _∙_}
-use Rattle.model.specs.Events.{signalOf}
 use borrow.Author.Needs.{needs}
+use Rattle.model.specs.Events.{signalOf}
 use Rattle.events.proofs.buttons.signal.Statement.{statement}
 use Rattle.events.proofs.buttons.signal.Tie as tie
 
@@ -23,7 +23,7 @@ returns c = simp (sym (c .before .in-s5 .ensures) ∙ c .if1 .taken)
 
 returns-2 : tie.Need-returns-2
 unfolding signalOf
-returns-2 c = simp (c .wake-if .ensures, c .before .signal-wakes .ensures, c .before .before .raise .ensures, sym (c .before .before .before .before .in-s5 .ensures) ∙ c .before .before .before .if1 .left)
+returns-2 c = simp (c .wake-if .ensures, c .before .signal-wakes .ensures, c .before .before .raise .ensures, sym (c .before .before .before .before .in-s5 .ensures) ∙ c .before .before .before .if1 .left, c .before .before .before .before .before .pre)
 
 pub signal-spec : {M : Type 1} → statement M
 signal-spec =
