@@ -4,6 +4,10 @@ use Prim.Native.Nat.{ℕ, _+_, _-_}
 use lib.Dec.{eqb, ltb, leb}
 use Rattle.platform.specs.declared.block.Block.{Block}
 
+-- a block by its address and its length; every block is made here
+abbrev pub block : ℕ → ℕ → Block
+block address length = record { address = address; length = length }
+
 -- "A PM1b block with address zero is absent"; "PM2, timer and GPE blocks are absent when address and length are both zero", and rule 6 refuses just one of them
 unfoldable pub present : Block → Bool
 present b = not (eqb (b .address) 0)
@@ -22,4 +26,4 @@ passesPorts b = ltb 65536 (b .address + b .length)
 
 -- an absent block; also what an index past a list of blocks reads
 abbrev pub noBlock : Block
-noBlock = record { address = 0; length = 0 }
+noBlock = block 0 0

@@ -1,12 +1,21 @@
 // A block of I/O ports.
 ghost use mathlib.Core.Path.{_≡_};
 ghost use Prim.Native.Nat.{_-_, _<_};
-ghost use Rattle.platform.specs.Blocks.{present, holds, overlap, passesPorts};
+ghost use Rattle.platform.specs.Blocks.{block, present, holds, overlap, passesPorts};
 
 // Its first port and how many it has; absent where the address is zero.
 pub struct Block {
     pub address: u64,
     pub length: u8,
+}
+
+impl Block {
+    // Every block is made here.
+    pub fn new(address: u64, length: u8) -> Self
+        ensures { λ r. ⌜ r ≡ block address length ⌝ }
+    {
+        Block { address, length }
+    }
 }
 
 pub fn is_present(b: Block) -> bool

@@ -5,8 +5,10 @@ use crate::block::overlaps;
 use crate::block::passes_ports;
 use crate::settings::Settings;
 use cells::Column;
+ghost use mathlib.Core.Bool.{_||_};
 ghost use mathlib.Core.Path.{_≡_};
-ghost use Prim.Native.Nat.{_<_};
+ghost use Prim.Native.Nat.{_+_, _<_};
+ghost use lib.Dec.{ltb};
 ghost use lib.ListN.{drop};
 ghost use Rattle.lists.specs.Any.{any, anyTwo};
 ghost use Rattle.platform.specs.Answer.{answerNumber, firstFailing};
@@ -102,10 +104,7 @@ pub fn judge(s: Settings) -> SetUpAnswer
 pub fn blocks(s: Settings) -> [Block; 9]
     ensures { λ r. ⌜ r ≡ blocksOf s ⌝ }
 {
-    let smi = Block {
-        address: s.smi_cmd,
-        length: 1,
-    };
+    let smi = Block::new(s.smi_cmd, 1);
     let evt_a = s.pm1a_evt;
     let evt_b = s.pm1b_evt;
     let cnt_a = s.pm1a_cnt;
@@ -242,13 +241,20 @@ pub fn event_count(b: Block) -> u64
     4 * (b.length as u64)
 }
 
+// What rule 9 says of a present GPE1, whose base is given.
+fn numbers_refused(base: u8, gpe0: Block, gpe1: Block) -> bool
+    ensures { λ r. ⌜ r ≡ (ltb base (eventCount gpe0) || ltb 256 (base + eventCount gpe1)) ⌝ }
+{
+    let first = base as u64;
+    (first < event_count(gpe0)) | (256 < first + event_count(gpe1))
+}
+
 fn gpe_refused(s: Settings) -> bool
     ensures { λ r. ⌜ r ≡ gpeRefused s ⌝ }
 {
     let gpe0 = s.gpe0;
     let gpe1 = s.gpe1;
-    let base = s.gpe1_base as u64;
-    is_present(gpe1) & ((base < event_count(gpe0)) | (256 < base + event_count(gpe1)))
+    is_present(gpe1) & numbers_refused(s.gpe1_base, gpe0, gpe1)
 }
 
 fn commands_refused(s: Settings) -> bool
