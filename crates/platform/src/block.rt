@@ -28,8 +28,7 @@ pub fn is_present(b: Block) -> bool
 pub fn offset(b: Block, port: u64) -> u64
     ensures { λ r. ⌜ r ≡ port - b .address ⌝ }
 {
-    let first = b.address;
-    if first <= port { port - first } else { 0 }
+    bits::past(port, b.address)
 }
 
 pub fn holds_port(b: Block, port: u64) -> bool
@@ -57,5 +56,5 @@ pub fn passes_ports(b: Block) -> bool
 fn room(port: u64) -> u64
     ensures { λ r. ⌜ r ≡ 65536 - port ⌝ }
 {
-    if port <= 65536 { 65536 - port } else { 0 }
+    bits::past(65536, port)
 }
