@@ -20,9 +20,13 @@ holds b port = present b && (leb (b .address) port && ltb (port - b .address) (b
 unfoldable pub overlap : Block → Block → Bool
 overlap a b = present a && (present b && (holds a (b .address) || holds b (a .address)))
 
+-- the ports are 0 to 65,535
+abbrev pub portLimit : ℕ
+portLimit = 65536
+
 -- "a block or SMI_CMD passes port 65,535"
 unfoldable pub passesPorts : Block → Bool
-passesPorts b = ltb 65536 (b .address + b .length)
+passesPorts b = ltb portLimit (b .address + b .length)
 
 -- an absent block; also what an index past a list of blocks reads
 abbrev pub noBlock : Block

@@ -17,6 +17,10 @@ use Rattle.platform.specs.declared.rules.SetUpAnswer.the-variants as ans
 abbrev pub smiBlock : Settings → Block
 smiBlock s = block (s .«smi_cmd») 1
 
+-- SMI_CMD and the eight blocks of the FADT
+abbrev pub blockCount : ℕ
+blockCount = 9
+
 -- the blocks in the order of their FADT address fields, SMI_CMD first
 abbrev pub blocksOf : Settings → List Block
 blocksOf s =

@@ -1,7 +1,10 @@
 // A block of I/O ports.
 ghost use mathlib.Core.Path.{_≡_};
 ghost use Prim.Native.Nat.{_-_, _<_};
-ghost use Rattle.platform.specs.Blocks.{block, present, holds, overlap, passesPorts};
+ghost use Rattle.platform.specs.Blocks.{block, present, holds, overlap, portLimit, passesPorts};
+
+// The ports are 0 to 65,535.
+pub const PORTS: u64 = 65536;
 
 // Its first port and how many it has; absent where the address is zero.
 pub struct Block {
@@ -49,12 +52,12 @@ pub fn overlaps(a: Block, b: Block) -> bool
 pub fn passes_ports(b: Block) -> bool
     ensures { λ r. ⌜ r ≡ passesPorts b ⌝ }
 {
-    (65536 < b.address) | (room(b.address) < b.length as u64)
+    (PORTS < b.address) | (room(b.address) < b.length as u64)
 }
 
 // How many ports there are from this one on.
 fn room(port: u64) -> u64
-    ensures { λ r. ⌜ r ≡ 65536 - port ⌝ }
+    ensures { λ r. ⌜ r ≡ portLimit - port ⌝ }
 {
-    bits::past(65536, port)
+    bits::past(PORTS, port)
 }

@@ -100,8 +100,11 @@ pub fn judge(s: Settings) -> SetUpAnswer
     SetUpAnswer::Done
 }
 
+// SMI_CMD and the eight blocks of the FADT.
+pub const BLOCKS: usize = 9;
+
 // The blocks in the order of their FADT address fields, SMI_CMD first.
-pub fn blocks(s: Settings) -> [Block; 9]
+pub fn blocks(s: Settings) -> [Block; BLOCKS]
     ensures { λ r. ⌜ r ≡ blocksOf s ⌝ }
 {
     let smi = Block::new(s.smi_cmd, 1);
@@ -128,10 +131,13 @@ fn wrong_length(n: u8, b: Block) -> bool
     is_present(b) & (b.length != n)
 }
 
+// The longest GPE block.
+pub const GPE_LONGEST: u8 = 16;
+
 fn wrong_gpe_length(b: Block) -> bool
     ensures { λ r. ⌜ r ≡ wrongGpeLength b ⌝ }
 {
-    is_present(b) & !((b.length % 2 == 0) & ((2 <= b.length) & (b.length <= 16)))
+    is_present(b) & !((b.length % 2 == 0) & ((2 <= b.length) & (b.length <= GPE_LONGEST)))
 }
 
 fn just_one_zero(b: Block) -> bool
@@ -172,11 +178,11 @@ fn misaligned(n: u64, b: Block) -> bool
     b.address % n != 0
 }
 
-fn any_passes_ports(bs: [Block; 9]) -> bool
+fn any_passes_ports(bs: [Block; BLOCKS]) -> bool
     ensures { λ r. ⌜ r ≡ any passesPorts bs ⌝ }
 {
     let mut i = 0;
-    while i < 9 {
+    while i < BLOCKS {
         if passes_ports(bs[i]) {
             return true;
         }
@@ -203,11 +209,11 @@ fn place_refused(s: Settings) -> bool
         | any_passes_ports(blocks(s))
 }
 
-fn overlaps_later(b: Block, bs: [Block; 9], from: usize) -> bool
+fn overlaps_later(b: Block, bs: [Block; BLOCKS], from: usize) -> bool
     ensures { λ r. ⌜ r ≡ any (overlap b) (drop from bs) ⌝ }
 {
     let mut j = from;
-    while j < 9 {
+    while j < BLOCKS {
         if overlaps(b, bs[j]) {
             return true;
         }
@@ -216,11 +222,11 @@ fn overlaps_later(b: Block, bs: [Block; 9], from: usize) -> bool
     false
 }
 
-fn any_overlap(bs: [Block; 9]) -> bool
+fn any_overlap(bs: [Block; BLOCKS]) -> bool
     ensures { λ r. ⌜ r ≡ anyTwo overlap bs ⌝ }
 {
     let mut i = 0;
-    while i < 9 {
+    while i < BLOCKS {
         if overlaps_later(bs[i], bs, i + 1) {
             return true;
         }
