@@ -1,16 +1,19 @@
 // The technicians' program: reads `platform.fadt` and a script on standard input, and prints the listing, or nothing.
 use libc::STDIN_FILENO;
 use libc::STDOUT_FILENO;
+use session::LIMIT;
 use session::SessionAnswer;
 ghost use mathlib.Core.Path.{_≡_};
+ghost use Prim.Native.Nat.{_+_};
 ghost use lib.ListN.{length};
 ghost use Rattle.io.specs.Counts.{Counts};
+ghost use Rattle.session.specs.Session.{limit};
 
 // One byte more than a script may have, to see that it is longer.
-fn script_buffer() -> [u8; 65537]
-    ensures { λ r. ⌜ 65537 ≡ length r ⌝ }
+fn script_buffer() -> [u8; LIMIT + 1]
+    ensures { λ r. ⌜ limit + 1 ≡ length r ⌝ }
 {
-    [0; 65537]
+    [0; LIMIT + 1]
 }
 
 // A script has at most 13,102 steps, and a line of the listing at most 25 bytes.
@@ -39,7 +42,7 @@ fn main() {
 
 // Whether nothing is left to read, after so many bytes; a script that fills its buffer is too long in any case.
 fn at_end(length: usize) -> bool {
-    if length == 65537 {
+    if LIMIT < length {
         return true;
     }
     let mut next = [0u8; 1];

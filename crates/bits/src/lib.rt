@@ -1,6 +1,7 @@
-// The rules of a register's cells, for bytes and words: write one to clear, take what is written, and the same by bytes; and one of two, by a test.
+// The rules of a register's cells, for bytes and words: write one to clear, take what is written, and the same by bytes; one of two, by a test; and a difference cut off at zero.
 ghost use mathlib.Core.Bool.{cond};
 ghost use mathlib.Core.Path.{_≡_};
+ghost use Prim.Native.Nat.{_-_};
 ghost use Rattle.bits.specs.Cell.{clearedBy, takenBy, clearedByte, takenByte, lane, laneOf, within};
 
 // Write one to clear: a byte, and a word.
@@ -88,4 +89,11 @@ pub fn pick_bool(c: bool, a: bool, b: bool) -> bool
     ensures { λ r. ⌜ r ≡ cond c a b ⌝ }
 {
     if c { a } else { b }
+}
+
+// How far a lies past b; zero where it does not.
+pub fn past(a: u64, b: u64) -> u64
+    ensures { λ r. ⌜ r ≡ a - b ⌝ }
+{
+    if b <= a { a - b } else { 0 }
 }

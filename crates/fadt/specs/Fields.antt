@@ -5,6 +5,7 @@ use Prim.Native.Nat.{ℕ, _+_, _*_}
 use lib.Dec.{eqb}
 use lib.ListN.{getD}
 use Rattle.sleep.specs.Pairs.{sleepTable}
+use Rattle.platform.specs.Blocks.{block}
 use Rattle.platform.specs.declared.block.Block.{Block}
 use Rattle.platform.specs.declared.settings.Settings.{Settings}
 
@@ -18,11 +19,11 @@ dword t i = byte t i + 256 * byte t (i + 1) + 65536 * byte t (i + 2) + 16777216 
 
 -- a block from the offsets of its address and its length
 abbrev pub blockOf : List ℕ → ℕ → ℕ → Block
-blockOf t address length = record { address = dword t address; length = byte t length }
+blockOf t address length = block (dword t address) (byte t length)
 
 -- "A PM1b block with address zero is absent": its length counts for nothing then, and is kept as zero
 abbrev pub pm1Block : List ℕ → ℕ → ℕ → Block
-pm1Block t address length = record { address = dword t address; length = cond (not (eqb (dword t address) 0)) (byte t length) 0 }
+pm1Block t address length = block (dword t address) (cond (not (eqb (dword t address) 0)) (byte t length) 0)
 
 -- "Given: FADT bytes; event homes and control homes ..; whether the power override is fitted; for each of S0 to S5, absent or a pair (a, b)"
 abbrev pub settingsOf : List ℕ → ℕ → ℕ → Bool → List (List ℕ) → Settings

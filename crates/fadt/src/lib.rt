@@ -174,10 +174,7 @@ fn block(table: &[u8], address: u8, length: u8) -> Block
 {
     let first = dword_at(table, address) as u64;
     let n = byte(table, length as usize);
-    Block {
-        address: first,
-        length: n,
-    }
+    Block::new(first, n)
 }
 
 // Both PM1 blocks of a group share one length field; that of an absent block is zero.
@@ -186,10 +183,7 @@ fn pm1_block(table: &[u8], address: u8, length: u8) -> Block
 {
     let first = dword_at(table, address) as u64;
     let n = byte(table, length as usize);
-    Block {
-        address: first,
-        length: length_if(first != 0, n),
-    }
+    Block::new(first, length_if(first != 0, n))
 }
 
 fn length_if(present: bool, n: u8) -> u8

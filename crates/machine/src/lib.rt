@@ -112,10 +112,7 @@ pub fn power_on(settings: Settings) -> Machine
 fn no_block() -> Block
     ensures { λ r. ⌜ r ≡ noBlock ⌝ }
 {
-    Block {
-        address: 0,
-        length: 0,
-    }
+    Block::new(0, 0)
 }
 
 fn no_settings() -> Settings

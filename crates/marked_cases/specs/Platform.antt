@@ -5,8 +5,7 @@ use mathlib.Core.List.{List, [], _∷_}
 use mathlib.Core.Path.{_≡_}
 use Prim.Native.Nat.{ℕ}
 use Rattle.sleep.specs.Pairs.{sleepTable}
-use Rattle.platform.specs.Blocks.{noBlock}
-use Rattle.platform.specs.declared.block.Block.{Block}
+use Rattle.platform.specs.Blocks.{block, noBlock}
 use Rattle.platform.specs.declared.settings.Settings.{Settings}
 use Rattle.platform.specs.declared.rules.SetUpAnswer.the-variants as answer
 use Rattle.machine.specs.declared.SetUp.{SetUp}
@@ -40,9 +39,6 @@ fadt wide =
 abbrev pub sleepPairs : List (List ℕ)
 sleepPairs =
     (0 ∷ 0 ∷ []) ∷ (255 ∷ 255 ∷ []) ∷ (255 ∷ 255 ∷ []) ∷ (5 ∷ 2 ∷ []) ∷ (255 ∷ 255 ∷ []) ∷ (7 ∷ 0 ∷ []) ∷ []
-
-abbrev block : ℕ → ℕ → Block
-block address length = record { address = address; length = length }
 
 -- the settings that the table and the host give
 abbrev pub platform : Bool → Settings

@@ -23,7 +23,7 @@ use Rattle.clock.specs.Clock.{counterBits}
 use Rattle.platform.specs.Blocks.{present, holds, noBlock}
 use Rattle.platform.specs.Cells.{statusCells, enableCells, wideTimer}
 use Rattle.platform.specs.Legal.{blockAt}
-use Rattle.platform.specs.Rules.{smiBlock, blocksOf}
+use Rattle.platform.specs.Rules.{smiBlock, blockCount, blocksOf}
 use Rattle.platform.specs.declared.block.Block.{Block}
 use Rattle.platform.specs.declared.settings.Settings.{Settings}
 use Rattle.platform.proofs.Legal.{holds-from}
@@ -79,7 +79,7 @@ first-found d f (x ∷ xs) h = go (f x) refl (first-found d f xs) h
 
 module _ (s : Settings) where
   place-block : (k : ℕ) → leadsNowhere (getD registers k register.Nowhere) ≡ false
-      → (k < 9) × (blockAt s k ≡ blockOf s (getD registers k register.Nowhere))
+      → (k < blockCount) × (blockAt s k ≡ blockOf s (getD registers k register.Nowhere))
   unfolding leadsNowhere
   place-block zero e = (lit< tt, refl)
   place-block (suc zero) e = (lit< tt, refl)

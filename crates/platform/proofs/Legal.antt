@@ -17,8 +17,8 @@ use Rattle.bits.proofs.Digits.{below-or-beyond}
 use Rattle.cells.specs.Cells.{flagOf}
 use Rattle.sleep.specs.Pairs.{outOfRange, shared, sleepRefused}
 use Rattle.platform.specs.Answer.{Rule, answerNumber, firstFailing}
-use Rattle.platform.specs.Blocks.{present, holds, overlap, passesPorts, noBlock}
-use Rattle.platform.specs.Rules.{blocksOf, eventCount, hardwareReduced, wrongBlockLength, wrongGpeLength, justOneZero, lengthTests, lengthRefused, misaligned, placeTests, placeRefused, overlapRefused, gpeRefused, commandsRefused, homeless, homeTests, homesRefused, sleepPairsRefused, settingsRules}
+use Rattle.platform.specs.Blocks.{present, holds, overlap, portLimit, passesPorts, noBlock}
+use Rattle.platform.specs.Rules.{blockCount, blocksOf, gpeLongest, eventCount, hardwareReduced, wrongBlockLength, wrongGpeLength, justOneZero, lengthTests, lengthRefused, misaligned, placeTests, placeRefused, overlapRefused, gpeRefused, commandsRefused, homeless, homeTests, homesRefused, sleepPairsRefused, settingsRules}
 use Rattle.platform.specs.Legal.{strayLength, legalTests, legalSettings, HasLength, HasGpeLength, HasNone, blockAt, Guaranteed}
 use Rattle.platform.specs.declared.block.Block.{Block}
 use Rattle.platform.specs.declared.settings.Settings.{Settings}
@@ -74,7 +74,7 @@ unfolding wrongGpeLength
 gpe-length-is b e h =
     let even = eqb (b .length % 2) 0 in
     let low = leb 2 (b .length) in
-    let high = leb (b .length) 16 in
+    let high = leb (b .length) gpeLongest in
     let all : (even && (low && high)) ≡ true = not-false (even && (low && high)) (and-other (present b) (not (even && (low && high))) e h) in
     let two : (low && high) ≡ true = and-right even (low && high) all in
     (eqb-true _ _ (and-left even (low && high) all), leb-true _ _ (and-left low high two), leb-true _ _ (and-right low high two))
@@ -94,9 +94,9 @@ aligned : (n : ℕ) (b : Block) → misaligned n b ≡ false → b .address % n 
 unfolding misaligned
 aligned n b e = eqb-true (b .address % n) 0 (not-false (eqb (b .address % n) 0) e)
 
-within-port-space : (b : Block) → passesPorts b ≡ false → b .address + b .length ≤ 65536
+within-port-space : (b : Block) → passesPorts b ≡ false → b .address + b .length ≤ portLimit
 unfolding passesPorts
-within-port-space b e = ltb-false 65536 (b .address + b .length) e
+within-port-space b e = ltb-false portLimit (b .address + b .length) e
 
 home-is : (b : Block) (homes : ℕ) → homeless b homes ≡ false → present b ≡ false → homes ≡ 0
 unfolding homeless
@@ -155,7 +155,7 @@ overlap-shares-port a b la lb e =
     go pa pb false false p q z = let no : _≡_ {A = ℕ} 0 1 = cc in absurd (zero-one no)
 
 module _ (s : Settings) (e : overlapRefused s ≡ false) (port : ℕ) where
-  apart : (i j : ℕ) → i < j → j < 9 → holds (blockAt s i) port ≡ true → holds (blockAt s j) port ≡ true → ⊥
+  apart : (i j : ℕ) → i < j → j < blockCount → holds (blockAt s i) port ≡ true → holds (blockAt s j) port ≡ true → ⊥
   unfolding overlapRefused
   apart i j h k hi hj =
       let no : overlap (blockAt s i) (blockAt s j) ≡ false = any-two-none noBlock overlap (blocksOf s) e i j h k in
@@ -163,7 +163,7 @@ module _ (s : Settings) (e : overlapRefused s ≡ false) (port : ℕ) where
       let z : _≡_ {A = ℕ} 0 1 = cc in
       omega arith
 
-  same-block : (i j : ℕ) → i < 9 → j < 9 → holds (blockAt s i) port ≡ true → holds (blockAt s j) port ≡ true → i ≡ j
+  same-block : (i j : ℕ) → i < blockCount → j < blockCount → holds (blockAt s i) port ≡ true → holds (blockAt s j) port ≡ true → i ≡ j
   same-block i j i< j< hi hj =
       below-or-beyond i j (λ h. absurd (apart i j h j< hi hj))
       (λ h. below-or-beyond j i (λ k. absurd (apart j i k i< hj hi)) (λ k. omega arith))

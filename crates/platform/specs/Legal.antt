@@ -9,8 +9,8 @@ use lib.ListN.{length, getD}
 use Rattle.lists.specs.Any.{any, anyOf}
 use Rattle.cells.specs.Cells.{flagOf}
 use Rattle.sleep.specs.Pairs.{outOfRange, shared}
-use Rattle.platform.specs.Blocks.{present, holds, noBlock}
-use Rattle.platform.specs.Rules.{blocksOf, gpeLongest, eventCount, settingsRules}
+use Rattle.platform.specs.Blocks.{present, holds, portLimit, noBlock}
+use Rattle.platform.specs.Rules.{blockCount, blocksOf, gpeLongest, eventCount, settingsRules}
 use Rattle.platform.specs.declared.block.Block.{Block}
 use Rattle.platform.specs.declared.settings.Settings.{Settings}
 
@@ -65,9 +65,9 @@ pub record Guaranteed (s : Settings) : Type 0 where
   pub tmr-aligned : s .«pm_tmr» .address % 4 ≡ 0
   pub cnt-a-aligned : s .«pm1a_cnt» .address % 2 ≡ 0
   pub cnt-b-aligned : s .«pm1b_cnt» .address % 2 ≡ 0
-  pub within-ports : (i : ℕ) → i < 9 → blockAt s i .address + blockAt s i .length ≤ 65536
+  pub within-ports : (i : ℕ) → i < blockCount → blockAt s i .address + blockAt s i .length ≤ portLimit
   -- a port inside a present block belongs to that block alone
-  pub one-block : (port i j : ℕ) → i < 9 → j < 9 → holds (blockAt s i) port ≡ true → holds (blockAt s j) port ≡ true → i ≡ j
+  pub one-block : (port i j : ℕ) → i < blockCount → j < blockCount → holds (blockAt s i) port ≡ true → holds (blockAt s j) port ≡ true → i ≡ j
   pub gpe1-above-gpe0 : present (s .gpe1) ≡ true → eventCount (s .gpe0) ≤ s .«gpe1_base»
   pub gpe1-numbers : present (s .gpe1) ≡ true → s .«gpe1_base» + eventCount (s .gpe1) ≤ 256
   pub commands-differ : (s .«smi_cmd» ≡ 0 → ⊥) → s .«acpi_enable» ≡ s .«acpi_disable» → ⊥

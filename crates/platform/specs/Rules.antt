@@ -8,14 +8,18 @@ use Rattle.bits.specs.Cell.{within}
 use Rattle.cells.specs.Cells.{flagOf}
 use Rattle.sleep.specs.Pairs.{sleepRefused}
 use Rattle.platform.specs.Answer.{Rule, _when_}
-use Rattle.platform.specs.Blocks.{present, overlap, passesPorts}
+use Rattle.platform.specs.Blocks.{block, present, overlap, passesPorts}
 use Rattle.platform.specs.declared.block.Block.{Block}
 use Rattle.platform.specs.declared.settings.Settings.{Settings}
 use Rattle.platform.specs.declared.rules.SetUpAnswer.the-variants as answer
 
 -- "SMI_CMD, if nonzero, is a one-byte block"
 abbrev pub smiBlock : Settings → Block
-smiBlock s = record { address = s .«smi_cmd»; length = 1 }
+smiBlock s = block (s .«smi_cmd») 1
+
+-- SMI_CMD and the eight blocks of the FADT
+abbrev pub blockCount : ℕ
+blockCount = 9
 
 -- the blocks in the order of their FADT address fields, SMI_CMD first
 abbrev pub blocksOf : Settings → List Block

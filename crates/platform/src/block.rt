@@ -1,12 +1,24 @@
 // A block of I/O ports.
 ghost use mathlib.Core.Path.{_≡_};
 ghost use Prim.Native.Nat.{_-_, _<_};
-ghost use Rattle.platform.specs.Blocks.{present, holds, overlap, passesPorts};
+ghost use Rattle.platform.specs.Blocks.{block, present, holds, overlap, portLimit, passesPorts};
+
+// The ports are 0 to 65,535.
+pub const PORTS: u64 = 65536;
 
 // Its first port and how many it has; absent where the address is zero.
 pub struct Block {
     pub address: u64,
     pub length: u8,
+}
+
+impl Block {
+    // Every block is made here.
+    pub fn new(address: u64, length: u8) -> Self
+        ensures { λ r. ⌜ r ≡ block address length ⌝ }
+    {
+        Block { address, length }
+    }
 }
 
 pub fn is_present(b: Block) -> bool
@@ -19,8 +31,7 @@ pub fn is_present(b: Block) -> bool
 pub fn offset(b: Block, port: u64) -> u64
     ensures { λ r. ⌜ r ≡ port - b .address ⌝ }
 {
-    let first = b.address;
-    if first <= port { port - first } else { 0 }
+    bits::past(port, b.address)
 }
 
 pub fn holds_port(b: Block, port: u64) -> bool
@@ -41,12 +52,12 @@ pub fn overlaps(a: Block, b: Block) -> bool
 pub fn passes_ports(b: Block) -> bool
     ensures { λ r. ⌜ r ≡ passesPorts b ⌝ }
 {
-    (65536 < b.address) | (room(b.address) < b.length as u64)
+    (PORTS < b.address) | (room(b.address) < b.length as u64)
 }
 
 // How many ports there are from this one on.
 fn room(port: u64) -> u64
-    ensures { λ r. ⌜ r ≡ 65536 - port ⌝ }
+    ensures { λ r. ⌜ r ≡ portLimit - port ⌝ }
 {
-    if port <= 65536 { 65536 - port } else { 0 }
+    bits::past(PORTS, port)
 }

@@ -4,9 +4,12 @@ mod rules;
 mod settings;
 
 pub use block::Block;
+pub use block::PORTS;
 pub use block::holds_port;
 pub use block::is_present;
 pub use block::offset;
+pub use rules::BLOCKS;
+pub use rules::GPE_LONGEST;
 pub use rules::SetUpAnswer;
 pub use rules::blocks;
 pub use rules::event_count;

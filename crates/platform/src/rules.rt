@@ -5,8 +5,10 @@ use crate::block::overlaps;
 use crate::block::passes_ports;
 use crate::settings::Settings;
 use cells::Column;
+ghost use mathlib.Core.Bool.{_||_};
 ghost use mathlib.Core.Path.{_≡_};
-ghost use Prim.Native.Nat.{_<_};
+ghost use Prim.Native.Nat.{_+_, _<_};
+ghost use lib.Dec.{ltb};
 ghost use lib.ListN.{drop};
 ghost use Rattle.lists.specs.Any.{any, anyTwo};
 ghost use Rattle.platform.specs.Answer.{answerNumber, firstFailing};
@@ -98,14 +100,14 @@ pub fn judge(s: Settings) -> SetUpAnswer
     SetUpAnswer::Done
 }
 
+// SMI_CMD and the eight blocks of the FADT.
+pub const BLOCKS: usize = 9;
+
 // The blocks in the order of their FADT address fields, SMI_CMD first.
-pub fn blocks(s: Settings) -> [Block; 9]
+pub fn blocks(s: Settings) -> [Block; BLOCKS]
     ensures { λ r. ⌜ r ≡ blocksOf s ⌝ }
 {
-    let smi = Block {
-        address: s.smi_cmd,
-        length: 1,
-    };
+    let smi = Block::new(s.smi_cmd, 1);
     let evt_a = s.pm1a_evt;
     let evt_b = s.pm1b_evt;
     let cnt_a = s.pm1a_cnt;
@@ -129,10 +131,13 @@ fn wrong_length(n: u8, b: Block) -> bool
     is_present(b) & (b.length != n)
 }
 
+// The longest GPE block.
+pub const GPE_LONGEST: u8 = 16;
+
 fn wrong_gpe_length(b: Block) -> bool
     ensures { λ r. ⌜ r ≡ wrongGpeLength b ⌝ }
 {
-    is_present(b) & !((b.length % 2 == 0) & ((2 <= b.length) & (b.length <= 16)))
+    is_present(b) & !((b.length % 2 == 0) & ((2 <= b.length) & (b.length <= GPE_LONGEST)))
 }
 
 fn just_one_zero(b: Block) -> bool
@@ -173,11 +178,11 @@ fn misaligned(n: u64, b: Block) -> bool
     b.address % n != 0
 }
 
-fn any_passes_ports(bs: [Block; 9]) -> bool
+fn any_passes_ports(bs: [Block; BLOCKS]) -> bool
     ensures { λ r. ⌜ r ≡ any passesPorts bs ⌝ }
 {
     let mut i = 0;
-    while i < 9 {
+    while i < BLOCKS {
         if passes_ports(bs[i]) {
             return true;
         }
@@ -204,11 +209,11 @@ fn place_refused(s: Settings) -> bool
         | any_passes_ports(blocks(s))
 }
 
-fn overlaps_later(b: Block, bs: [Block; 9], from: usize) -> bool
+fn overlaps_later(b: Block, bs: [Block; BLOCKS], from: usize) -> bool
     ensures { λ r. ⌜ r ≡ any (overlap b) (drop from bs) ⌝ }
 {
     let mut j = from;
-    while j < 9 {
+    while j < BLOCKS {
         if overlaps(b, bs[j]) {
             return true;
         }
@@ -217,11 +222,11 @@ fn overlaps_later(b: Block, bs: [Block; 9], from: usize) -> bool
     false
 }
 
-fn any_overlap(bs: [Block; 9]) -> bool
+fn any_overlap(bs: [Block; BLOCKS]) -> bool
     ensures { λ r. ⌜ r ≡ anyTwo overlap bs ⌝ }
 {
     let mut i = 0;
-    while i < 9 {
+    while i < BLOCKS {
         if overlaps_later(bs[i], bs, i + 1) {
             return true;
         }
@@ -242,13 +247,20 @@ pub fn event_count(b: Block) -> u64
     4 * (b.length as u64)
 }
 
+// What rule 9 says of a present GPE1, whose base is given.
+fn numbers_refused(base: u8, gpe0: Block, gpe1: Block) -> bool
+    ensures { λ r. ⌜ r ≡ (ltb base (eventCount gpe0) || ltb 256 (base + eventCount gpe1)) ⌝ }
+{
+    let first = base as u64;
+    (first < event_count(gpe0)) | (256 < first + event_count(gpe1))
+}
+
 fn gpe_refused(s: Settings) -> bool
     ensures { λ r. ⌜ r ≡ gpeRefused s ⌝ }
 {
     let gpe0 = s.gpe0;
     let gpe1 = s.gpe1;
-    let base = s.gpe1_base as u64;
-    is_present(gpe1) & ((base < event_count(gpe0)) | (256 < base + event_count(gpe1)))
+    is_present(gpe1) & numbers_refused(s.gpe1_base, gpe0, gpe1)
 }
 
 fn commands_refused(s: Settings) -> bool

@@ -42,7 +42,8 @@ pub enum SessionAnswer {
     NoRoom,
 }
 
-const LIMIT: usize = 65536;
+// A script's bytes past this many do not read.
+pub const LIMIT: usize = 65536;
 
 // Whether the line that begins at a place is a step and ends within the limit.
 fn step_reads(source: &[u8], start: usize) -> bool

@@ -12,9 +12,8 @@ use Rattle.clock.specs.Clock.{turned, grow, overrides, tickOf}
 use Rattle.runs.specs.Items.{passing, failing, original, moved, stepsOf, Every, Run, after as afterAll, Throughout, Awake}
 use Rattle.sleep.specs.Pairs.{sleepTable, absent, outOfRange, samePair, shared, named, firstFrom}
 use Rattle.platform.specs.Answer.{firstFailing}
-use Rattle.platform.specs.Blocks.{present, holds, overlap, passesPorts}
+use Rattle.platform.specs.Blocks.{block, present, holds, overlap, passesPorts}
 use Rattle.platform.specs.Rules.{hardwareReduced, wrongBlockLength, wrongGpeLength, justOneZero, lengthRefused, misaligned, placeRefused, overlapRefused, gpeRefused, commandsRefused, homeless, homesRefused, sleepPairsRefused}
-use Rattle.platform.specs.declared.block.Block.{Block}
 use Rattle.platform.specs.declared.settings.Settings.{Settings}
 use Rattle.platform.specs.declared.rules.SetUpAnswer.the-variants as set-up
 use Rattle.fadt.specs.Fields.{dword, settingsOf}
@@ -53,9 +52,6 @@ table =
 -- "00 - - 52 - 70"; an absent pair is both 255
 abbrev pub pairs : List (List ℕ)
 pairs = (0 ∷ 0 ∷ []) ∷ (255 ∷ 255 ∷ []) ∷ (255 ∷ 255 ∷ []) ∷ (5 ∷ 2 ∷ []) ∷ (255 ∷ 255 ∷ []) ∷ (7 ∷ 0 ∷ []) ∷ []
-
-abbrev block : ℕ → ℕ → Block
-block address length = record { address = address; length = length }
 
 -- the settings read, with these event homes; no control homes, no override
 abbrev pub platform : ℕ → Settings

@@ -3,17 +3,18 @@ mod words;
 
 use libc::STDIN_FILENO;
 use libc::STDOUT_FILENO;
+use session::LIMIT;
 use session::SessionAnswer;
 ghost use mathlib.Core.Path.{_≡_};
+ghost use Prim.Native.Nat.{_+_};
 ghost use lib.ListN.{length};
-
-const LIMIT: usize = 65536;
+ghost use Rattle.session.specs.Session.{limit};
 
 // One byte more than a script may have, to see that it is longer.
-fn script_buffer() -> [u8; 65537]
-    ensures { λ r. ⌜ 65537 ≡ length r ⌝ }
+fn script_buffer() -> [u8; LIMIT + 1]
+    ensures { λ r. ⌜ limit + 1 ≡ length r ⌝ }
 {
-    [0; 65537]
+    [0; LIMIT + 1]
 }
 
 fn main() {

@@ -35,10 +35,10 @@ unfolding maskOf
 end of flags timer xs i m h = rw (drop-of-length-le xs h) (or-zero-r m)
 
 abbrev Inv-loop : tie.InvT-loop
-Inv-loop of flags timer table m₀ i₀ m i = (i ≤ 8) × (bitOr m (maskOf of flags timer (drop i cells)) ≡ maskOf of flags timer cells)
+Inv-loop of flags timer table m₀ i₀ m i = (i ≤ length cells) × (bitOr m (maskOf of flags timer (drop i cells)) ≡ maskOf of flags timer cells)
 
 abbrev μ-loop : tie.MeasureT-loop
-μ-loop of flags timer table m₀ i₀ m i = 8 - i
+μ-loop of flags timer table m₀ i₀ m i = length cells - i
 
 loop-holds : tie.Need-loop-holds Inv-loop μ-loop
 loop-holds c = (omega arith, refl)

@@ -12,8 +12,11 @@ cast-first c = search needs
 byte-requires : tie.Need-byte-requires
 byte-requires c κs = search needs
 
+new-requires : tie.Need-new-requires
+new-requires c κs = search needs
+
 returns : tie.Need-returns
-returns c = simp (c .byte .ensures, c .before .dword-at .ensures)
+returns c = simp (c .new .ensures, c .before .byte .ensures, c .before .before .dword-at .ensures)
 
 pub block-spec : {M : Type 1} → statement M
-block-spec = tie.close (tie.spec dword-at-requires cast-first byte-requires returns)
+block-spec = tie.close (tie.spec dword-at-requires cast-first byte-requires new-requires returns)

@@ -15,9 +15,13 @@ byte-requires c κs = search needs
 length-if-requires : tie.Need-length-if-requires
 length-if-requires c κs = search needs
 
+new-requires : tie.Need-new-requires
+new-requires c κs = search needs
+
 returns : tie.Need-returns
-returns c = simp (c .length-if .ensures, c .before .byte .ensures, c .before .before .dword-at .ensures)
+returns c = simp (c .new .ensures, c .before .length-if .ensures, c .before .before .byte .ensures, c .before .before .before .dword-at .ensures)
 
 pub pm1-block-spec : {M : Type 1} → statement M
 pm1-block-spec =
-    tie.close (tie.spec dword-at-requires cast-first byte-requires length-if-requires returns)
+    tie.close
+    (tie.spec dword-at-requires cast-first byte-requires length-if-requires new-requires returns)

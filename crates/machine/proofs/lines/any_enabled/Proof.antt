@@ -14,7 +14,7 @@ abbrev Inv-loop : tie.InvT-loop
 Inv-loop sts en i₀ i = anyEnabled (drop i sts) (drop i en) ≡ anyEnabled sts en
 
 abbrev μ-loop : tie.MeasureT-loop
-μ-loop sts en i₀ i = 8 - i
+μ-loop sts en i₀ i = length sts - i
 
 loop-holds : tie.Need-loop-holds Inv-loop μ-loop
 loop-holds c = refl

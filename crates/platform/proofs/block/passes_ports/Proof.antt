@@ -1,6 +1,6 @@
 -- `platform::block::passes_ports` meets its contract: what its calls and tests say, put together, is the definition. Assumes nothing.
 use Rattle.platform.proofs.Ports.{sum-passes}
-use Rattle.platform.specs.Blocks.{passesPorts}
+use Rattle.platform.specs.Blocks.{portLimit, passesPorts}
 use borrow.Author.Needs.{needs}
 use Rattle.platform.proofs.block.passes_ports.Statement.{statement}
 use Rattle.platform.proofs.block.passes_ports.Tie as tie
@@ -15,7 +15,7 @@ returns : tie.Need-returns
 unfolding passesPorts
 returns c =
     let b = c .before .before .before .args .b in
-    rw (c .before .room .ensures) (sum-passes 65536 (b .address) (b .length))
+    rw (c .before .room .ensures) (sum-passes portLimit (b .address) (b .length))
 
 pub passes-ports-spec : {M : Type 1} → statement M
 passes-ports-spec = tie.close (tie.spec room-requires cast-result returns)

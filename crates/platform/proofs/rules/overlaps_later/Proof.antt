@@ -15,7 +15,7 @@ abbrev Inv-loop : tie.InvT-loop
 Inv-loop b from bs j₀ j = any (overlap b) (drop j bs) ≡ any (overlap b) (drop from bs)
 
 abbrev μ-loop : tie.MeasureT-loop
-μ-loop b from bs j₀ j = 9 - j
+μ-loop b from bs j₀ j = length bs - j
 
 loop-holds : tie.Need-loop-holds Inv-loop μ-loop
 loop-holds c = refl
