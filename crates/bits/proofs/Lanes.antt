@@ -3,7 +3,6 @@
 -- Assumes nothing.
 use mathlib.Core.Path.{_≡_, sym, ap, _∙_}
 use mathlib.Core.Logic.{_≢_}
-use mathlib.Core.Bool.{Bool, true, false}
 use Prim.Native.Nat.{ℕ, _+_, _*_, _/_, _%_, _^_, _≤_, _<_}
 use native.Mathlib.Nat.{lt-of-lt-of-le, mod-lt, mod-eq-of-lt}
 use native.Mathlib.Omega.{arith}
@@ -11,7 +10,7 @@ use lib.Dec.{lit<, lit≤}
 use lib.Pow.{pow-mono, shl-lt, shl-shr, high-ones}
 use lib.Bits.{bitAnd, bitOr, and-high, and-mask}
 use Rattle.bits.specs.Digit.{digit}
-use Rattle.bits.specs.Cell.{clearedBy, takenBy, lane, laneMask, byteAt, clearedByte, takenByte, laneOf}
+use Rattle.bits.specs.Cell.{clearedBy, takenBy, lane, laneMask, byteAt, clearedByte, takenByte}
 use Rattle.bits.proofs.Digits.{digit-le, digit-and, digit-below-shift, digit-shifted, digit-shr, digit-mod, digit-ones, digit-beyond, below-or-beyond, same-digits-below}
 use Rattle.bits.proofs.Algebra.{and-assoc, and-swap, and-over-or}
 use Rattle.bits.proofs.Cells.{masked-lt, kept-lt, take-lt, digit-cleared, digit-taken, clears-join, takes-join}
@@ -32,11 +31,6 @@ lane-shows-byte i v = ap (bitAnd v) (sym (high-ones 8 (8 * i))) ∙ and-high v 8
 -- a lane that lies in a register of k bits
 pub laneMask-lt : (k i m : ℕ) → 8 * i + 8 ≤ k → laneMask i m < 2 ^ k
 laneMask-lt k i m f = masked-lt k m (lane i 255) (lt-of-lt-of-le (shl-lt {a = 255} 8 (8 * i) (lit< tt)) (pow-mono (omega arith)))
-
--- the bytes of a word are in it
-pub lane-in-word : (high : Bool) → 8 * laneOf high + 8 ≤ 16
-lane-in-word true = lit≤ tt
-lane-in-word false = lit≤ tt
 
 -- in its own lane the mask is as it was
 digit-own-lane : (i n m : ℕ) → n < 8 → digit (8 * i + n) (laneMask i m) ≡ digit (8 * i + n) m

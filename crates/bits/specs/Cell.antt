@@ -1,5 +1,5 @@
 -- The two cell rules, over the width k of a register, and the bytes of a register. The mask holds the bits that a write may touch.
-use mathlib.Core.Bool.{Bool, true, false}
+use mathlib.Core.Bool.{Bool}
 use Prim.Native.Nat.{ℕ, _-_, _*_, _/_, _%_, _^_}
 use lib.Bits.{bitAnd, bitOr}
 use lib.Dec.{eqb}
@@ -34,11 +34,6 @@ clearedByte k i old byte mask = clearedBy k old (lane i byte) (laneMask i mask)
 
 abbrev pub takenByte : ℕ → ℕ → ℕ → ℕ → ℕ → ℕ
 takenByte k i old byte mask = takenBy k old (lane i byte) (laneMask i mask)
-
--- the high byte of a word is byte 1, the low byte 0
-abbrev pub laneOf : Bool → ℕ
-laneOf true = 1
-laneOf false = 0
 
 -- no bit of x lies outside the mask
 unfoldable pub within : ℕ → ℕ → Bool

@@ -1,8 +1,8 @@
-// The rules of a register's cells, for bytes and words: write one to clear, take what is written, and the same by bytes; one of two, by a test; and a difference cut off at zero.
+// The rules of a register's cells: write one to clear, take what is written; one of two, by a test; and a difference cut off at zero.
 ghost use mathlib.Core.Bool.{cond};
 ghost use mathlib.Core.Path.{_≡_};
 ghost use Prim.Native.Nat.{_-_};
-ghost use Rattle.bits.specs.Cell.{clearedBy, takenBy, clearedByte, takenByte, lane, laneOf, within};
+ghost use Rattle.bits.specs.Cell.{clearedBy, takenBy, within};
 
 // Write one to clear: a byte, and a word.
 pub fn clear8(old: u8, byte: u8, mask: u8) -> u8
@@ -17,41 +17,11 @@ pub fn clear16(old: u16, written: u16, mask: u16) -> u16
     old & !(written & mask)
 }
 
-// Take what is written: a byte, and a word.
-pub fn take8(old: u8, byte: u8, mask: u8) -> u8
-    ensures { λ r. ⌜ r ≡ takenBy 8 old byte mask ⌝ }
-{
-    (old & !mask) | (byte & mask)
-}
-
+// Take what is written.
 pub fn take16(old: u16, written: u16, mask: u16) -> u16
     ensures { λ r. ⌜ r ≡ takenBy 16 old written mask ⌝ }
 {
     (old & !mask) | (written & mask)
-}
-
-// A byte at its place in a word: the high byte or the low.
-pub fn at_lane(high: bool, byte: u8) -> u16
-    ensures { λ r. ⌜ r ≡ lane (laneOf high) byte ⌝ }
-{
-    if high {
-        (byte as u16) * 256
-    } else {
-        byte as u16
-    }
-}
-
-// A byte of a word written: the rule in its lane alone.
-pub fn clear_byte(old: u16, high: bool, byte: u8, mask: u16) -> u16
-    ensures { λ r. ⌜ r ≡ clearedByte 16 (laneOf high) old byte mask ⌝ }
-{
-    clear16(old, at_lane(high, byte), mask & at_lane(high, 255))
-}
-
-pub fn take_byte(old: u16, high: bool, byte: u8, mask: u16) -> u16
-    ensures { λ r. ⌜ r ≡ takenByte 16 (laneOf high) old byte mask ⌝ }
-{
-    take16(old, at_lane(high, byte), mask & at_lane(high, 255))
 }
 
 // Whether no bit of x lies outside the mask.

@@ -1,7 +1,6 @@
 // The PM1 event cells: one constant table, and the masks computed from it.
+use bits::pick16;
 ghost use mathlib.Core.Path.{_≡_};
-ghost use mathlib.Core.Bool.{cond};
-ghost use lib.Bits.{bitOr};
 ghost use Rattle.cells.specs.Cells.{flagOf, bitAt, isFitted, hasEnable, isEvent, isIn, cellBit, maskOf, cells};
 
 pub enum Status {
@@ -118,12 +117,6 @@ fn cell_bit(of: Column, flags: u32, timer: bool, c: Cell) -> u16
 {
     let bit = c.bit;
     pick16(is_in(of, flags, timer, c), bit_at(bit), 0)
-}
-
-fn pick16(c: bool, a: u16, b: u16) -> u16
-    ensures { λ r. ⌜ r ≡ cond c a b ⌝ }
-{
-    if c { a } else { b }
 }
 
 fn is_in(of: Column, flags: u32, timer: bool, c: Cell) -> bool

@@ -1,16 +1,12 @@
 -- What lies beyond a number's bits, or beyond a list's end, is nothing. Assumes nothing.
 use mathlib.Core.Path.{_≡_, refl, sym, _∙_}
-use mathlib.Core.Bool.{Bool, true, false}
+use mathlib.Core.Bool.{false}
 use mathlib.Core.List.{List, [], _∷_}
 use Prim.Native.Nat.{ℕ, zero, suc, _%_, _^_, _≤_, _<_}
 use native.Mathlib.Nat.{lt-of-lt-of-le, one-mul, le-of-suc-le-suc, not-suc-le-zero, mod-mod}
 use lib.Bits.{bitAnd, and-comm, and-shifted, and-mask}
-use native.Mathlib.Omega.{arith}
-use borrow.Author.Tests.{eqb-true, eqb-false}
-use lib.Dec.{eqb}
 use lib.ListN.{length, getD}
 use lib.Pow.{pow-mono}
-use Rattle.bits.specs.Cell.{laneOf}
 use Rattle.machine.specs.Cells.{hasBit}
 
 -- a register of 16 bits has no bit past them

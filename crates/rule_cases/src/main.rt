@@ -38,11 +38,11 @@ fn status() {
     );
     line(
         b"status C731, high byte FF",
-        bits::clear_byte(0xC731, true, 0xFF, 0xC731) as u64,
+        bits::clear16(0xC731, 0xFF00, 0xC731) as u64,
     );
     line(
         b"status C731, low byte FF",
-        bits::clear_byte(0xC731, false, 0xFF, 0xC731) as u64,
+        bits::clear16(0xC731, 0x00FF, 0xC731) as u64,
     );
     line(
         b"status C731, FFFF written, RTC in the other block",
@@ -61,11 +61,11 @@ fn enable() {
     );
     line(
         b"enable 4721, high byte 00",
-        bits::take_byte(0x4721, true, 0x00, 0x4721) as u64,
+        bits::take16(0x4721, 0x0000, 0x4721 & 0xFF00) as u64,
     );
     line(
         b"enable 4721, low byte 00",
-        bits::take_byte(0x4721, false, 0x00, 0x4721) as u64,
+        bits::take16(0x4721, 0x0000, 0x4721 & 0x00FF) as u64,
     );
 }
 

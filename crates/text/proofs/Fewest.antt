@@ -5,7 +5,7 @@ use mathlib.Core.Logic.{_⊎_, ⊎-elim}
 use mathlib.Core.Bool.{Bool, true, false, cond}
 use mathlib.Core.List.{List, [], _∷_}
 use Prim.Native.Nat.{ℕ, zero, suc, _+_, _*_, _/_, _^_, _≤_, _<_}
-use native.Mathlib.Nat.{mul-one, mul-assoc, mul-le-mul-right, div-lt-self, pow-le-pow-right, pow-zero, pow-suc, pow-succ', le-trans, one-mul}
+use native.Mathlib.Nat.{mul-one, mul-assoc, mul-le-mul-right, div-lt-self, pow-le-pow-right, pow-zero, pow-suc, pow-succ', le-trans, lt-of-lt-of-le, one-mul}
 use native.Mathlib.Omega.{arith}
 use borrow.Author.Tests.{ltb-true, ltb-false, lt-ltb, le-ltb}
 use lib.Dec.{ltb}
@@ -135,3 +135,7 @@ module _ (b : ℕ) (two : 1 < b) where
       → digits b (digitCount b (numberOf b m (x ∷ xs))) (numberOf b m (x ∷ xs)) ≡ x ∷ xs
   fewest-of-number m x xs h e w =
       rw (number-is-value b m (x ∷ xs) (written-number b m (x ∷ xs) (omega arith) h e)) (fewest-of-value x xs e w)
+
+-- what is written of a 64-bit number in decimal means the number: 20 digits are enough
+pub decimal-of-fewest : (n : ℕ) → n < 2 ^ 64 → numberOf 10 20 (digits 10 (digitCount 10 n) n) ≡ n
+decimal-of-fewest n h = number-of-fewest 10 (omega arith) (omega arith) 20 n (omega arith) (lt-of-lt-of-le h (omega arith))

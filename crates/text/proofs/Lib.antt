@@ -1,7 +1,6 @@
 pub mod Stores
 pub mod Digits
 pub mod Fewest
-pub mod Decimals
 pub mod Turns
 pub mod Cuts
 pub mod Lines

@@ -2,8 +2,7 @@
 use mathlib.Core.Path.{_≡_, refl}
 use mathlib.Core.Bool.{true, _&&_}
 use mathlib.Core.List.{List}
-use Prim.Native.Nat.{ℕ, suc, _+_, _-_, _*_, _/_, _%_, _≤_, _<_}
-use native.Mathlib.Nat.{div-lt-iff-lt-mul, le-div-iff-mul-le}
+use Prim.Native.Nat.{ℕ, suc, _+_, _*_, _/_, _%_, _≤_, _<_}
 use native.Mathlib.Numerals.{add-one}
 use native.Mathlib.Omega.{arith}
 use lib.Dec.{ltb}
@@ -31,13 +30,6 @@ value-turn b n xs i h = rw (drop-cons xs i 0 h, add-one)
 -- a turn of the reader makes no number larger than the whole
 pub value-room : (b : ℕ) → 1 < b → (n : ℕ) (xs : List ℕ) (i : ℕ) → i < length xs → n * b + digitOf (getD xs i 0) ≤ valueFrom b n (drop i xs)
 value-room b two n xs i h = rw (value-turn b n xs i h) (value-grows b two (n * b + digitOf (getD xs i 0)) (drop (i + 1) xs))
-
--- what is the most less a digit, by the base, tells whether one more digit has room
-pub no-room : (b : ℕ) → 1 < b → (top n d : ℕ) → (top - d) / b < n → top < n * b + d
-no-room b two top n d h = let some : 0 < b = omega arith in let l = div-lt-iff-lt-mul some .0 h in omega arith
-
-pub has-room : (b : ℕ) → 1 < b → (top n d : ℕ) → d ≤ top → n ≤ (top - d) / b → n * b + d ≤ top
-has-room b two top n d l h = let some : 0 < b = omega arith in let m = le-div-iff-mul-le some .0 h in omega arith
 
 pub value-end : (b n : ℕ) (xs : List ℕ) (i : ℕ) → length xs ≤ i → valueFrom b n (drop i xs) ≡ n
 unfolding valueFrom

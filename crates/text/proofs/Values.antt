@@ -2,7 +2,7 @@
 use mathlib.Core.Path.{_≡_, refl}
 use mathlib.Core.Bool.{false}
 use mathlib.Core.List.{[], _∷_}
-use Rattle.text.specs.Numbers.{digitOf, glyph, valueFrom, allDigits, isNumber, numberOf, isDecimal, decimalOf, digits, countWithin, digitCount}
+use Rattle.text.specs.Numbers.{digitOf, glyph, valueFrom, allDigits, isNumber, numberOf, digits, countWithin, digitCount}
 use Rattle.text.specs.Parts.{onFirst, cut, fieldsOf, linesOf}
 
 -- `e1` and `E1` are 225, `7g` is no number
@@ -23,18 +23,14 @@ pub hex-empty : isNumber 16 16 [] ≡ false
 unfolding isNumber
 hex-empty = refl
 
-pub decimal-A : isDecimal (65 ∷ []) ≡ false
-unfolding isDecimal isNumber allDigits digitOf
+pub decimal-A : isNumber 10 20 (65 ∷ []) ≡ false
+unfolding isNumber allDigits digitOf
 decimal-A = refl
 
--- the largest number of 64 bits reads, the next does not
-pub decimal-top : decimalOf (digits 10 20 18446744073709551615) ≡ 18446744073709551615
-unfolding decimalOf isDecimal isNumber allDigits digitOf valueFrom digits glyph
+-- the largest number of 64 bits, in its 20 digits
+pub decimal-top : numberOf 10 20 (digits 10 20 18446744073709551615) ≡ 18446744073709551615
+unfolding numberOf isNumber allDigits digitOf valueFrom digits glyph
 decimal-top = refl
-
-pub decimal-over : isDecimal (digits 10 20 18446744073709551616) ≡ false
-unfolding isDecimal isNumber allDigits digitOf valueFrom digits glyph
-decimal-over = refl
 
 -- 0400, and 1024
 pub written-0400 : digits 16 4 1024 ≡ 48 ∷ 52 ∷ 48 ∷ 48 ∷ []

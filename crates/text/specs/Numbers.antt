@@ -1,7 +1,7 @@
 -- Numbers as texts: digits in a base of 2 to 16, the highest first.
 use mathlib.Core.Bool.{Bool, true, cond, _&&_}
 use mathlib.Core.List.{List, [], _∷_, _++_}
-use Prim.Native.Nat.{ℕ, zero, suc, _+_, _-_, _*_, _/_, _%_, _^_}
+use Prim.Native.Nat.{ℕ, zero, suc, _+_, _-_, _*_, _/_, _%_}
 use lib.Dec.{eqb, ltb, leb}
 use lib.ListN.{length}
 
@@ -40,14 +40,6 @@ isNumber b most xs = ltb 0 (length xs) && (leb (length xs) most && allDigits b x
 -- the number that a text is; 0 where it is none
 unfoldable pub numberOf : ℕ → ℕ → List ℕ → ℕ
 numberOf b most xs = cond (isNumber b most xs) (valueOf b xs) 0
-
--- a text is a decimal number: 1 to 20 digits, and below 2^64
-unfoldable pub isDecimal : List ℕ → Bool
-isDecimal xs = isNumber 10 20 xs && ltb (valueOf 10 xs) (2 ^ 64)
-
--- the decimal number that a text is; 0 where it is none
-unfoldable pub decimalOf : List ℕ → ℕ
-decimalOf xs = cond (isDecimal xs) (valueOf 10 xs) 0
 
 -- a number written: its last `width` digits
 unfoldable pub digits : ℕ → ℕ → ℕ → List ℕ

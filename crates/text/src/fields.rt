@@ -1,14 +1,12 @@
 // The fields of a line, parted by tabs and counted from 0. A field that is not there is empty.
 use crate::numbers::hex_value;
-use crate::numbers::is_hex;
 use crate::parts::part;
 use crate::parts::part_count;
 use crate::parts::same;
 ghost use mathlib.Core.Path.{_≡_};
 ghost use mathlib.Core.List.{[]};
-ghost use lib.Dec.{eqb};
 ghost use lib.ListN.{length, getD};
-ghost use Rattle.text.specs.Numbers.{isNumber, numberOf};
+ghost use Rattle.text.specs.Numbers.{numberOf};
 ghost use Rattle.text.specs.Parts.{fieldsOf, sameText};
 
 const TAB: u8 = 9;
@@ -17,12 +15,6 @@ pub fn field_count(line: &[u8]) -> usize
     ensures { λ r. ⌜ r ≡ length (fieldsOf (now (line .entry))) ⌝ }
 {
     part_count(line, TAB)
-}
-
-pub fn has_fields(line: &[u8], n: usize) -> bool
-    ensures { λ r. ⌜ r ≡ eqb (length (fieldsOf (now (line .entry)))) n ⌝ }
-{
-    field_count(line) == n
 }
 
 pub fn field<'a>(line: &'a [u8], n: usize) -> &'a [u8]
@@ -37,13 +29,7 @@ pub fn field_is(line: &[u8], n: usize, word: &[u8]) -> bool
     same(field(line, n), word)
 }
 
-// Whether field n is a number, in hex; and the number, 0 where it is none.
-pub fn field_is_hex(line: &[u8], n: usize) -> bool
-    ensures { λ r. ⌜ r ≡ isNumber 16 16 (getD (fieldsOf (now (line .entry))) n []) ⌝ }
-{
-    is_hex(field(line, n))
-}
-
+// The number that field n is, in hex; 0 where it is none.
 pub fn field_hex(line: &[u8], n: usize) -> u64
     ensures { λ r. ⌜ r ≡ numberOf 16 16 (getD (fieldsOf (now (line .entry))) n []) ⌝ }
 {

@@ -1,8 +1,7 @@
-// Numbers read and written, hex and decimal.
+// Numbers: hex read and written, decimal written.
 use crate::writes::store;
 ghost use mathlib.Core.Path.{_≡_};
 ghost use Prim.Native.Nat.{_≤_, _<_, _^_};
-ghost use lib.Dec.{ltb};
 ghost use lib.Seq.{sets};
 ghost use Rattle.text.specs.Numbers.{
   digitOf,
@@ -11,8 +10,6 @@ ghost use Rattle.text.specs.Numbers.{
   allDigits,
   isNumber,
   numberOf,
-  isDecimal,
-  decimalOf,
   digits,
   digitCount,
 };
@@ -31,31 +28,7 @@ pub fn hex_value(text: &[u8]) -> u64
     if is_hex(text) { value(text, 16) } else { 0 }
 }
 
-// A text of 1 to 20 decimal digits, below 2^64.
-pub fn is_decimal(text: &[u8]) -> bool
-    ensures { λ r. ⌜ r ≡ isDecimal (now (text .entry)) ⌝ }
-{
-    if is_number(text, 10, 20) {
-        fits(text, 10)
-    } else {
-        false
-    }
-}
-
-// The number that the text is; 0 where it is none.
-pub fn decimal_value(text: &[u8]) -> u64
-    ensures { λ r. ⌜ r ≡ decimalOf (now (text .entry)) ⌝ }
-{
-    if is_decimal(text) { value(text, 10) } else { 0 }
-}
-
-// The fewest digits that show n.
-pub fn hex_digits(n: u64) -> usize
-    ensures { λ r. ⌜ r ≡ digitCount 16 n ⌝ }
-{
-    digit_count(n, 16)
-}
-
+// The fewest decimal digits that show n.
 pub fn decimal_digits(n: u64) -> usize
     ensures { λ r. ⌜ r ≡ digitCount 10 n ⌝ }
 {
@@ -137,24 +110,6 @@ fn is_number(text: &[u8], base: u64, most: usize) -> bool
         return false;
     }
     all_digits(text, base)
-}
-
-// Whether a u64 holds the number that the digits show.
-fn fits(text: &[u8], base: u64) -> bool
-    requires { ⌜ 1 < base ⌝ }
-    ensures { λ r. ⌜ r ≡ ltb (valueOf base (now (text .entry))) (2 ^ 64) ⌝ }
-{
-    let mut n: u64 = 0;
-    let mut i = 0;
-    while i < text.len() {
-        let digit = digit_of(text[i]) as u64;
-        if (0xFFFF_FFFF_FFFF_FFFF - digit) / base < n {
-            return false;
-        }
-        n = n * base + digit;
-        i += 1;
-    }
-    true
 }
 
 fn value(text: &[u8], base: u64) -> u64
