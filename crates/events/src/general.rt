@@ -17,11 +17,10 @@ pub(crate) fn in_gpe0(s: Settings, k: u32) -> bool
 }
 
 // How far the number lies past GPE1_BASE; zero below it.
-fn past_base(s: Settings, k: u32) -> u32
+fn past_base(s: Settings, k: u32) -> u64
     ensures { λ r. ⌜ r ≡ k - s .«gpe1_base» ⌝ }
 {
-    let base = s.gpe1_base as u32;
-    if base <= k { k - base } else { 0 }
+    bits::past(k as u64, s.gpe1_base as u64)
 }
 
 pub(crate) fn in_gpe1(s: Settings, k: u32) -> bool
@@ -29,16 +28,20 @@ pub(crate) fn in_gpe1(s: Settings, k: u32) -> bool
 {
     let block = s.gpe1;
     let base = s.gpe1_base as u32;
-    (base <= k) & ((past_base(s, k) as u64) < platform::event_count(block))
+    (base <= k) & (past_base(s, k) < platform::event_count(block))
 }
 
-fn number_in(s: Settings, k: u32) -> u32
+fn number_in(s: Settings, k: u32) -> u64
     ensures { λ r. ⌜ r ≡ numberIn s k ⌝ }
 {
-    if in_gpe0(s, k) { k } else { past_base(s, k) }
+    if in_gpe0(s, k) {
+        k as u64
+    } else {
+        past_base(s, k)
+    }
 }
 
-fn bit8(j: u32) -> u8
+fn bit8(j: u64) -> u8
     requires { ⌜ j < 8 ⌝ }
     ensures { λ r. ⌜ r ≡ 2 ^ j ⌝ }
 {
@@ -46,7 +49,7 @@ fn bit8(j: u32) -> u8
 }
 
 // Status bytes with event k's bit set.
-fn with_bit(xs: [u8; GPE_BYTES], k: u32) -> [u8; GPE_BYTES]
+fn with_bit(xs: [u8; GPE_BYTES], k: u64) -> [u8; GPE_BYTES]
     ensures { λ r. ⌜ r ≡ withBit xs k ⌝ }
 {
     let i = (k / 8) as usize;
@@ -59,7 +62,7 @@ fn with_bit(xs: [u8; GPE_BYTES], k: u32) -> [u8; GPE_BYTES]
     }
 }
 
-fn is_enabled(xs: [u8; GPE_BYTES], k: u32) -> bool
+fn is_enabled(xs: [u8; GPE_BYTES], k: u64) -> bool
     ensures { λ r. ⌜ r ≡ isEnabled xs k ⌝ }
 {
     let i = (k / 8) as usize;
@@ -78,7 +81,7 @@ fn general_raised(m: Machine, k: u32) -> Machine
     let sts1 = m.gpe1_sts;
     let mut next = m;
     if in_gpe0(s, k) {
-        let raised = with_bit(sts0, k);
+        let raised = with_bit(sts0, k as u64);
         next.gpe0_sts = raised;
         next
     } else {
@@ -95,7 +98,7 @@ fn general_enabled(m: Machine, k: u32) -> bool
     let en0 = m.gpe0_en;
     let en1 = m.gpe1_en;
     if in_gpe0(s, k) {
-        is_enabled(en0, k)
+        is_enabled(en0, k as u64)
     } else {
         is_enabled(en1, number_in(s, k))
     }

@@ -34,7 +34,7 @@ ghost use Rattle.machine.specs.PowerOn.{zeroed, powerOn, noSettings, all
 ghost use Rattle.machine.specs.SetUp.{machineFor, setUpOf};
 
 // The most status bytes, and the most enable bytes, of a GPE block.
-pub const GPE_BYTES: usize = 8;
+pub const GPE_BYTES: usize = platform::GPE_LONGEST as usize / 2;
 
 pub struct Machine {
     pub settings: Settings,

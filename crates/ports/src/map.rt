@@ -1,6 +1,7 @@
 // Where a port leads.
 use model::Place;
 use model::Register;
+use platform::BLOCKS;
 use platform::Block;
 use platform::Settings;
 ghost use mathlib.Core.Path.{_≡_};
@@ -11,12 +12,12 @@ ghost use Rattle.platform.specs.Blocks.{holds, noBlock};
 ghost use Rattle.model.specs.Ports.{registers, walk};
 ghost use Rattle.model.specs.declared.Register.the-variants as register;
 
-// The first of the blocks that holds the port, by its place; 9 where none does.
-fn first_holding(bs: [Block; 9], port: u64) -> usize
+// The first of the blocks that holds the port, by its place; BLOCKS where none does.
+fn first_holding(bs: [Block; BLOCKS], port: u64) -> usize
     ensures { λ r. ⌜ r ≡ firstAt (λ b. holds b port) bs ⌝ }
 {
     let mut i = 0;
-    while i < 9 {
+    while i < BLOCKS {
         if platform::holds_port(bs[i], port) {
             return i;
         }
@@ -44,10 +45,10 @@ fn register_of(place: usize) -> Register
 }
 
 // How far the port lies past its block's first; past the last block, from port zero.
-fn offset_in(bs: [Block; 9], place: usize, port: u64) -> u64
+fn offset_in(bs: [Block; BLOCKS], place: usize, port: u64) -> u64
     ensures { λ r. ⌜ r ≡ port - getD bs place noBlock .address ⌝ }
 {
-    if place < 9 {
+    if place < BLOCKS {
         platform::offset(bs[place], port)
     } else {
         port

@@ -234,8 +234,7 @@ pub fn in_gpe_status(s: Settings, b: bool, offset: u64) -> bool
 pub fn past_status(s: Settings, b: bool, offset: u64) -> u64
     ensures { λ r. ⌜ r ≡ offset - gpeHalf s b ⌝ }
 {
-    let half = gpe_half(s, b) as u64;
-    if half <= offset { offset - half } else { 0 }
+    bits::past(offset, gpe_half(s, b) as u64)
 }
 
 fn gpe_sts(m: Machine, b: bool) -> [u8; GPE_BYTES]

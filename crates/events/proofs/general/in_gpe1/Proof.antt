@@ -10,9 +10,6 @@ cast-base c = search needs
 past-base-requires : tie.Need-past-base-requires
 past-base-requires c κs = search needs
 
-cast-result : tie.Need-cast-result
-cast-result c = search needs
-
 event-count-requires : tie.Need-event-count-requires
 event-count-requires c κs = search needs
 
@@ -22,4 +19,4 @@ returns c = simp (c .event-count .ensures, c .before .past-base .ensures)
 
 pub in-gpe1-spec : {M : Type 1} → statement M
 in-gpe1-spec =
-    tie.close (tie.spec cast-base past-base-requires cast-result event-count-requires returns)
+    tie.close (tie.spec cast-base past-base-requires event-count-requires returns)

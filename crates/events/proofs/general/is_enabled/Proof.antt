@@ -8,9 +8,6 @@ use borrow.Author.Needs.{needs}
 use Rattle.events.proofs.general.is_enabled.Statement.{statement}
 use Rattle.events.proofs.general.is_enabled.Tie as tie
 
-cast-i : tie.Need-cast-i
-cast-i c = search needs
-
 array-read-has-bit8 : tie.Need-array-read-has-bit8
 array-read-has-bit8 c = search needs
 
@@ -33,4 +30,4 @@ returns-2 c =
 pub is-enabled-spec : {M : Type 1} → statement M
 is-enabled-spec =
     tie.close
-    (tie.spec cast-i array-read-has-bit8 bit8-requires has-bit8-requires returns returns-2)
+    (tie.spec array-read-has-bit8 bit8-requires has-bit8-requires returns returns-2)

@@ -9,9 +9,6 @@ use borrow.Author.Needs.{needs}
 use Rattle.events.proofs.general.with_bit.Statement.{statement}
 use Rattle.events.proofs.general.with_bit.Tie as tie
 
-cast-i : tie.Need-cast-i
-cast-i c = search needs
-
 array-read-ys : tie.Need-array-read-ys
 array-read-ys c = search needs
 
@@ -32,4 +29,4 @@ returns-2 c =
 
 pub with-bit-spec : {M : Type 1} → statement M
 with-bit-spec =
-    tie.close (tie.spec cast-i array-read-ys bit8-requires array-write-ys returns returns-2)
+    tie.close (tie.spec array-read-ys bit8-requires array-write-ys returns returns-2)

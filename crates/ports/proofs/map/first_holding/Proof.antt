@@ -15,7 +15,7 @@ abbrev Inv-loop : tie.InvT-loop
 Inv-loop port bs i₀ i = i + firstAt (λ b. holds b port) (drop i bs) ≡ firstAt (λ b. holds b port) bs
 
 abbrev μ-loop : tie.MeasureT-loop
-μ-loop port bs i₀ i = 9 - i
+μ-loop port bs i₀ i = length bs - i
 
 loop-holds : tie.Need-loop-holds Inv-loop μ-loop
 loop-holds c = omega arith
