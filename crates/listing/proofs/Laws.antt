@@ -2,7 +2,7 @@
 use mathlib.Core.Bool.{Bool, cond}
 use mathlib.Core.List.{List, [], _∷_, _++_, append-assoc}
 use mathlib.Core.Path.{_≡_, refl, sym, _∙_, ap}
-use Prim.Native.Nat.{ℕ, suc, _+_, _-_, _^_, _≤_, _<_}
+use Prim.Native.Nat.{ℕ, _+_, _-_, _^_, _≤_, _<_}
 use native.Mathlib.Nat.{lt-of-lt-of-le}
 use native.Mathlib.Omega.{arith}
 use borrow.Author.Tests.{le-leb, lt-leb}
@@ -16,7 +16,7 @@ use Rattle.text.specs.Parts.{tab, lf}
 use Rattle.text.proofs.Digits.{digits-length}
 use Rattle.text.proofs.Fewest.{digits-fewest}
 use Rattle.text.proofs.Stores.{sets-then}
-use Rattle.listing.specs.Entry.{decimal, flag, stateText, tail, fields, entry, entryLength, putAt}
+use Rattle.listing.specs.Entry.{decimal, flag, stateDigit, stateText, tail, fields, entry, entryLength, putAt}
 use Rattle.machine.specs.declared.Machine.{Machine}
 use Rattle.machine.specs.Lines.{sciOf, smiOf}
 use Rattle.model.specs.Answer.{numberOf, valueOf}
@@ -52,12 +52,12 @@ flag-length : (up : Bool) → length (flag up) ≡ 1
 flag-length up = digits-length 10 1 (cond up 1 0)
 
 -- the state's three bytes
-pub state-written : (l : List ℕ) (at state : ℕ) (first second third : List ℕ) → first ≡ sets l at (83 ∷ [])
-    → second ≡ sets first (at + 1) (digits 10 1 state) → third ≡ sets second (at + 2) (lf ∷ []) → third ≡ sets l at (stateText state ++ (lf ∷ []))
-state-written l at state first second third e f g =
+pub state-written : (l : List ℕ) (at state digit : ℕ) (first second third : List ℕ) → digit ≡ stateDigit state → first ≡ sets l at (83 ∷ [])
+    → second ≡ sets first (at + 1) (digit ∷ []) → third ≡ sets second (at + 2) (lf ∷ []) → third ≡ sets l at (stateText state ++ (lf ∷ []))
+state-written l at state digit first second third d e f g =
     two-writes l at (at + 2) (stateText state) (lf ∷ []) second third
-    (two-writes l at (at + 1) (83 ∷ []) (digits 10 1 state) first second e refl f)
-    (ap (λ (k : ℕ). at + suc k) (digits-length 10 1 state)) g
+    (two-writes l at (at + 1) (83 ∷ []) (stateDigit state ∷ []) first second e refl (f ∙ ap (λ (x : ℕ). sets first (at + 1) (x ∷ [])) d))
+    refl g
 
 pub tail-written : (l : List ℕ) (at value : ℕ) (sci smi : Bool) (state : ℕ) (first second third fourth : List ℕ)
     → first ≡ sets l at (digits 16 8 value ++ (tab ∷ []))

@@ -31,9 +31,12 @@ decimal n = digits 10 (digitCount 10 n) n
 abbrev pub flag : Bool → List ℕ
 flag up = digits 10 1 (cond up 1 0)
 
--- S0 to S5
+-- the digit of S0 to S5; a number that is no state shows as `?`
+abbrev pub stateDigit : ℕ → ℕ
+stateDigit state = cond (leb state 5) (48 + state) 63
+
 abbrev pub stateText : ℕ → List ℕ
-stateText state = 83 ∷ digits 10 1 state
+stateText state = 83 ∷ stateDigit state ∷ []
 
 -- from the value on: "the value eight hex digits", SCI, SMI and the state
 unfoldable pub tail : ℕ → Bool → Bool → ℕ → List ℕ

@@ -12,7 +12,7 @@ ghost use Prim.Native.Nat.{_+_, _^_, _<_};
 ghost use lib.Seq.{sets};
 ghost use Rattle.text.specs.Numbers.{digits, digitCount};
 ghost use Rattle.text.specs.Parts.{tab, lf};
-ghost use Rattle.listing.specs.Entry.{header, decimal, flag, stateText, tail, fields, entry, entryLength, putAt};
+ghost use Rattle.listing.specs.Entry.{header, decimal, flag, stateDigit, stateText, tail, fields, entry, entryLength, putAt};
 
 const TAB: u8 = 9;
 
@@ -46,13 +46,21 @@ fn put_flag(buf: &mut [u8], at: usize, up: bool)
     write_byte(buf, at + 1, TAB);
 }
 
+// The digit of S0 to S5; a number that is no state shows as a question mark.
+fn state_digit(state: u8) -> u8
+    ensures { λ r. ⌜ r ≡ stateDigit state ⌝ }
+{
+    if state <= 5 { 48 + state } else { b'?' }
+}
+
 // The state and the line's end.
 fn put_state(buf: &mut [u8], at: usize, state: u8)
     requires { ⌜ at + 2 < 2 ^ 64 ⌝ }
     ensures { λ _. ⌜ now (buf .exit) ≡ sets (now (buf .entry)) at (stateText state ++ (lf ∷ [])) ⌝ }
 {
+    let digit = state_digit(state);
     write_byte(buf, at, 83);
-    write_decimal(buf, at + 1, state as u64, 1);
+    write_byte(buf, at + 1, digit);
     write_byte(buf, at + 2, LF);
 }
 

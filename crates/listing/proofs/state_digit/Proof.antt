@@ -1,0 +1,17 @@
+-- `listing::state_digit` meets its contract: what its calls and tests say, put together, is the definition. Assumes nothing.
+use borrow.Author.Needs.{needs}
+use borrow.Author.Tests.{le-leb, lt-leb}
+use Rattle.listing.proofs.state_digit.Statement.{statement}
+use Rattle.listing.proofs.state_digit.Tie as tie
+
+add-result : tie.Need-add-result
+add-result c = search needs
+
+returns : tie.Need-returns
+returns c = simp (le-leb _ _ (c .if1 .taken))
+
+returns-2 : tie.Need-returns-2
+returns-2 c = simp (lt-leb _ _ (c .if1 .left))
+
+pub state-digit-spec : {M : Type 1} → statement M
+state-digit-spec = tie.close (tie.spec add-result returns returns-2)
