@@ -39,18 +39,25 @@ pub(crate) fn read_cells(m: Machine, r: Register, width: u32, offset: u64) -> u3
     let s = m.settings;
     match r {
         Register::SmiCmd => 0,
-        Register::Pm1Evt(b) => match offset {
-            0 => read_low(width, registers::status_register(m, b) as u32),
-            1 => read_high(registers::status_register(m, b) as u32),
-            2 => read_low(width, registers::enable_register(m, b) as u32),
-            3 => read_high(registers::enable_register(m, b) as u32),
-            _ => 0,
-        },
-        Register::Pm1Cnt(b) => match offset {
-            0 => read_low(width, registers::control_register(m, b)),
-            1 => read_high(registers::control_register(m, b)),
-            _ => 0,
-        },
+        Register::Pm1Evt(b) => {
+            let sts = registers::status_register(m, b) as u32;
+            let en = registers::enable_register(m, b) as u32;
+            match offset {
+                0 => read_low(width, sts),
+                1 => read_high(sts),
+                2 => read_low(width, en),
+                3 => read_high(en),
+                _ => 0,
+            }
+        }
+        Register::Pm1Cnt(b) => {
+            let cnt = registers::control_register(m, b);
+            match offset {
+                0 => read_low(width, cnt),
+                1 => read_high(cnt),
+                _ => 0,
+            }
+        }
         Register::Pm2Cnt => pick32(m.arb_dis, 1, 0),
         Register::PmTmr => timer_register(m),
         Register::Gpe(b) => {
@@ -119,16 +126,22 @@ pub(crate) fn write_cells(m: Machine, r: Register, width: u32, offset: u64, writ
     let s = m.settings;
     match r {
         Register::SmiCmd => latch(m, registers::low_byte(written)),
-        Register::Pm1Evt(b) => match offset {
-            0 => with_event(m, registers::status_low(m, b, width, written), m.pm1_en),
-            1 => with_event(m, registers::status_high(m, b, written), m.pm1_en),
-            2 => with_event(m, m.pm1_sts, registers::enable_low(m, b, width, written)),
-            3 => with_event(m, m.pm1_sts, registers::enable_high(m, b, written)),
-            _ => m,
-        },
+        Register::Pm1Evt(b) => {
+            let sts = m.pm1_sts;
+            let en = m.pm1_en;
+            let clearable = registers::clearable(m, b);
+            let enables = registers::enable_in(s, b);
+            match offset {
+                0 => with_event(m, registers::status_low(sts, clearable, width, written), en),
+                1 => with_event(m, registers::status_high(sts, clearable, written), en),
+                2 => with_event(m, sts, registers::enable_low(en, enables, width, written)),
+                3 => with_event(m, sts, registers::enable_high(en, enables, written)),
+                _ => m,
+            }
+        }
+        // one rule for both bytes: a write may latch, complete and sleep with the two together
         Register::Pm1Cnt(b) => match offset {
-            0 => control::write_low(m, b, width, written),
-            1 => control::write_high(m, b, written),
+            0..=1 => control::write(m, b, width, offset, written),
             _ => m,
         },
         Register::Pm2Cnt => with_arb_dis(m, written % 2 == 1),

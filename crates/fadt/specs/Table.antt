@@ -7,7 +7,7 @@ use lib.ListN.{length, take}
 use Rattle.platform.specs.Answer.{Rule, _when_}
 use Rattle.platform.specs.Rules.{settingsRules}
 use Rattle.platform.specs.declared.settings.Settings.{Settings}
-use Rattle.platform.specs.declared.rules.SetUpAnswer.the-variants as answer
+use Rattle.platform.specs.declared.rules.SetUpRefusal.the-variants as refusal
 use Rattle.fadt.specs.Fields.{byte, dword}
 
 -- 1: "fewer than 116 bytes are lent"
@@ -47,8 +47,8 @@ wrongSum t = not (eqb (sum (take (tableLength t) t) % 256) 0)
 -- the table, in its order
 abbrev pub setUpRules : List ℕ → Settings → List Rule
 setUpRules t s =
-    answer.TableShort when tableShort t ∷
-    answer.NoSignature when noSignature t ∷
-    answer.WrongLength when wrongTableLength t ∷
-    answer.WrongSum when wrongSum t ∷
+    refusal.TableShort when tableShort t ∷
+    refusal.NoSignature when noSignature t ∷
+    refusal.WrongLength when wrongTableLength t ∷
+    refusal.WrongSum when wrongSum t ∷
     settingsRules s

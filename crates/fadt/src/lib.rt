@@ -1,6 +1,7 @@
 // The FADT's bytes: rules 1 to 4 of setting up, and the settings read from them.
 use platform::Block;
 use platform::SetUpAnswer;
+use platform::SetUpRefusal;
 use platform::Settings;
 use sleep::SleepTable;
 use std::num::wrapping_add_u8;
@@ -26,16 +27,16 @@ pub fn judge(table: &[u8], s: Settings) -> SetUpAnswer
     ensures { λ r. ⌜ r ≡ firstFailing (setUpRules (now (table .entry)) s) ⌝ }
 {
     if table_short(table) {
-        return SetUpAnswer::TableShort;
+        return SetUpAnswer::Refused(SetUpRefusal::TableShort);
     }
     if no_signature(table) {
-        return SetUpAnswer::NoSignature;
+        return SetUpAnswer::Refused(SetUpRefusal::NoSignature);
     }
     if wrong_length(table) {
-        return SetUpAnswer::WrongLength;
+        return SetUpAnswer::Refused(SetUpRefusal::WrongLength);
     }
     if wrong_sum(table) {
-        return SetUpAnswer::WrongSum;
+        return SetUpAnswer::Refused(SetUpRefusal::WrongSum);
     }
     platform::judge(s)
 }

@@ -4,37 +4,33 @@ use mathlib.Core.Bool.{Bool, true, false}
 use mathlib.Core.List.{List}
 use mathlib.Core.Path.{_≡_, refl}
 use Prim.Native.Nat.{ℕ}
-use borrow.Author.Tests.{ne-eqb}
 use Rattle.lists.specs.Any.{any}
 use Rattle.lists.proofs.Search.{any-drop}
-use Rattle.platform.specs.Answer.{answerNumber}
 use Rattle.platform.specs.Blocks.{present}
 use Rattle.platform.specs.Legal.{legalSettings, HasNone, Guaranteed}
 use Rattle.platform.specs.declared.settings.Settings.{Settings}
 use Rattle.platform.specs.declared.rules.SetUpAnswer.the-variants as answer
-use Rattle.platform.proofs.Legal.{allRefuse, done-passes, settings-legal, legal-guaranteed}
+use Rattle.platform.specs.declared.rules.SetUpRefusal.{SetUpRefusal}
+use Rattle.platform.proofs.Answers.{done-passes, refusal-not-zero}
+use Rattle.platform.proofs.Legal.{settings-legal, legal-guaranteed}
 use Rattle.fadt.specs.Fields.{pm1Block, settingsOf}
 use Rattle.fadt.specs.Table.{setUpRules}
 use Rattle.machine.specs.PowerOn.{powerOn, allZero}
 use Rattle.machine.specs.SetUp.{machineFor, setUpFrom, setUpOf}
 
 module _ (t : List ℕ) (s : Settings) where
-  lines-refuse : allRefuse (setUpRules t s)
-  unfolding any
-  lines-refuse = refl
-
   -- no line of the table refuses
   pub accepted-passes : setUpFrom t s .answer ≡ answer.Done → any (λ r. r .refused) (setUpRules t s) ≡ false
-  accepted-passes e = done-passes (setUpRules t s) lines-refuse e
+  accepted-passes e = done-passes (setUpRules t s) e
 
   pub accepted-machine : setUpFrom t s .answer ≡ answer.Done → setUpFrom t s .machine ≡ powerOn s
   unfolding machineFor
   accepted-machine e = rw e refl
 
   -- "any refusal to make one gives it all zero"
-  pub refused-machine : (answerNumber (setUpFrom t s .answer) ≡ 0 → ⊥) → setUpFrom t s .machine ≡ allZero
+  pub refused-machine : (r : SetUpRefusal) → setUpFrom t s .answer ≡ answer.Refused r → setUpFrom t s .machine ≡ allZero
   unfolding machineFor
-  refused-machine n = rw (ne-eqb _ _ n) refl
+  refused-machine r e = rw (e, refusal-not-zero r) refl
 
 -- a PM1 block read as absent has no length
 pm1-none : (t : List ℕ) (address length : ℕ) → HasNone (pm1Block t address length)

@@ -1,8 +1,8 @@
--- Settings that pass lines 5 to 12 are as `Guaranteed` says, and an answer of 0 means that the lines pass.
+-- Settings that pass lines 5 to 12 are as `Guaranteed` says.
 -- Each line is an or of tests: none refuses, so each test is false, and a false test says the opposite of what it looks for.
 -- Assumes nothing.
 use mathlib.Core.Bool.{Bool, true, false, not, _&&_, _||_, or-true}
-use mathlib.Core.List.{List, [], _∷_}
+use mathlib.Core.List.{[]}
 use mathlib.Core.Path.{_≡_, refl, ap}
 use Prim.Native.Nat.{ℕ, _+_, _-_, _%_, _≤_, _<_}
 use native.Mathlib.Omega.{arith}
@@ -16,39 +16,15 @@ use Rattle.bits.proofs.Cells.{within-masked}
 use Rattle.bits.proofs.Digits.{below-or-beyond}
 use Rattle.cells.specs.Cells.{flagOf}
 use Rattle.sleep.specs.Pairs.{outOfRange, shared, sleepRefused}
-use Rattle.platform.specs.Answer.{Rule, answerNumber, firstFailing}
+use Rattle.platform.specs.Answer.{Rule, _when_}
 use Rattle.platform.specs.Blocks.{present, holds, overlap, portLimit, passesPorts, noBlock}
 use Rattle.platform.specs.Rules.{blockCount, blocksOf, gpeLongest, eventCount, hardwareReduced, wrongBlockLength, wrongGpeLength, justOneZero, lengthTests, lengthRefused, misaligned, placeTests, placeRefused, overlapRefused, gpeRefused, commandsRefused, homeless, homeTests, homesRefused, sleepPairsRefused, settingsRules}
 use Rattle.platform.specs.Legal.{strayLength, legalTests, legalSettings, HasLength, HasGpeLength, HasNone, blockAt, Guaranteed}
 use Rattle.platform.specs.declared.block.Block.{Block}
 use Rattle.platform.specs.declared.settings.Settings.{Settings}
-use Rattle.platform.specs.declared.rules.SetUpAnswer.the-variants as answer
+use Rattle.platform.specs.declared.rules.SetUpRefusal.the-variants as refusal
 
--- ---- the answer and the lines
-
--- what an index past the table would read
-abbrev passed : Rule
-passed = record { answer = answer.Done; refused = false }
-
--- no line answers 0
-abbrev pub allRefuse : List Rule → Type 0
-allRefuse rs = any (λ r. eqb (answerNumber (r .answer)) 0) rs ≡ false
-
-line-passes : (r : Rule) (rs : List Rule) → eqb (answerNumber (r .answer)) 0 ≡ false → (firstFailing rs ≡ answer.Done → any (λ r. r .refused) rs ≡ false)
-    → firstFailing (r ∷ rs) ≡ answer.Done → (t : Bool) → r .refused ≡ t → any (λ r. r .refused) (r ∷ rs) ≡ false
-unfolding any firstFailing
-line-passes r rs n more e true p =
-    let d : r .answer ≡ answer.Done = rw p at e in
-    let z : eqb (answerNumber (r .answer)) 0 ≡ true = rw d refl in
-    cc
-line-passes r rs n more e false p = rw p (more (rw p at e))
-
--- an answer of 0: no line refuses
-pub done-passes : (rs : List Rule) → allRefuse rs → firstFailing rs ≡ answer.Done → any (λ r. r .refused) rs ≡ false
-unfolding any
-done-passes [] n e = refl
-done-passes (r ∷ rs) n e =
-    line-passes r rs (or-left _ _ n) (done-passes rs (or-right (eqb (answerNumber (r .answer)) 0) _ n)) e (r .refused) refl
+-- ---- the test
 
 -- an absent block with no length
 pub none-stray : (b : Block) → HasNone b → strayLength b ≡ false
@@ -169,6 +145,10 @@ module _ (s : Settings) (e : overlapRefused s ≡ false) (port : ℕ) where
       (λ h. below-or-beyond j i (λ k. absurd (apart j i k i< hj hi)) (λ k. omega arith))
 
 -- ---- all of it
+
+-- what an index past the table would read
+abbrev passed : Rule
+passed = refusal.TableShort when false
 
 module _ (s : Settings) (e : any (λ r. r .refused) (settingsRules s) ≡ false) where
   -- line k + 5 of the table

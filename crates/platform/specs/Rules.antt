@@ -11,7 +11,7 @@ use Rattle.platform.specs.Answer.{Rule, _when_}
 use Rattle.platform.specs.Blocks.{block, present, overlap, passesPorts}
 use Rattle.platform.specs.declared.block.Block.{Block}
 use Rattle.platform.specs.declared.settings.Settings.{Settings}
-use Rattle.platform.specs.declared.rules.SetUpAnswer.the-variants as answer
+use Rattle.platform.specs.declared.rules.SetUpRefusal.the-variants as refusal
 
 -- "SMI_CMD, if nonzero, is a one-byte block"
 abbrev pub smiBlock : Settings → Block
@@ -125,12 +125,12 @@ sleepPairsRefused s = sleepRefused (present (s .«pm1b_cnt»)) (s .sleep .pairs)
 -- the table's lines 5 to 12
 abbrev pub settingsRules : Settings → List Rule
 settingsRules s =
-    answer.HardwareReduced when hardwareReduced s ∷
-    answer.BlockLength when lengthRefused s ∷
-    answer.BlockPlace when placeRefused s ∷
-    answer.BlocksOverlap when overlapRefused s ∷
-    answer.Gpe1Numbers when gpeRefused s ∷
-    answer.SameCommands when commandsRefused s ∷
-    answer.WrongHomes when homesRefused s ∷
-    answer.SleepPairs when sleepPairsRefused s ∷
+    refusal.HardwareReduced when hardwareReduced s ∷
+    refusal.BlockLength when lengthRefused s ∷
+    refusal.BlockPlace when placeRefused s ∷
+    refusal.BlocksOverlap when overlapRefused s ∷
+    refusal.Gpe1Numbers when gpeRefused s ∷
+    refusal.SameCommands when commandsRefused s ∷
+    refusal.WrongHomes when homesRefused s ∷
+    refusal.SleepPairs when sleepPairsRefused s ∷
     []

@@ -11,7 +11,7 @@ ghost use Prim.Native.Nat.{_+_, _<_};
 ghost use lib.Dec.{ltb};
 ghost use lib.ListN.{drop};
 ghost use Rattle.lists.specs.Any.{any, anyTwo};
-ghost use Rattle.platform.specs.Answer.{answerNumber, firstFailing};
+ghost use Rattle.platform.specs.Answer.{refusalNumber, refusalValue, answerNumber, answerValue, firstFailing};
 ghost use Rattle.platform.specs.Blocks.{overlap, passesPorts};
 ghost use Rattle.platform.specs.Rules.{
   blocksOf,
@@ -32,9 +32,14 @@ ghost use Rattle.platform.specs.Rules.{
   settingsRules,
 };
 
-// The answers of setting up: success, or the line of the table that refuses.
-pub enum SetUpAnswer {
-    Done,
+// SMI_CMD and the eight blocks of the FADT.
+pub const BLOCKS: usize = 9;
+
+// The longest GPE block.
+pub const GPE_LONGEST: u8 = 16;
+
+// The lines of the table of setting up, each of which refuses.
+pub enum SetUpRefusal {
     TableShort,
     NoSignature,
     WrongLength,
@@ -49,23 +54,65 @@ pub enum SetUpAnswer {
     SleepPairs,
 }
 
+// The answers of setting up: success, or the first line that refuses.
+pub enum SetUpAnswer {
+    Done,
+    Refused(SetUpRefusal),
+}
+
+pub fn refusal_number(r: SetUpRefusal) -> u8
+    ensures { λ n. ⌜ n ≡ refusalNumber r ⌝ }
+{
+    match r {
+        SetUpRefusal::TableShort => 1,
+        SetUpRefusal::NoSignature => 2,
+        SetUpRefusal::WrongLength => 3,
+        SetUpRefusal::WrongSum => 4,
+        SetUpRefusal::HardwareReduced => 5,
+        SetUpRefusal::BlockLength => 6,
+        SetUpRefusal::BlockPlace => 7,
+        SetUpRefusal::BlocksOverlap => 8,
+        SetUpRefusal::Gpe1Numbers => 9,
+        SetUpRefusal::SameCommands => 10,
+        SetUpRefusal::WrongHomes => 11,
+        SetUpRefusal::SleepPairs => 12,
+    }
+}
+
+pub fn refusal_value(r: SetUpRefusal) -> u32
+    ensures { λ v. ⌜ v ≡ refusalValue r ⌝ }
+{
+    match r {
+        SetUpRefusal::TableShort => 0,
+        SetUpRefusal::NoSignature => 0,
+        SetUpRefusal::WrongLength => 0,
+        SetUpRefusal::WrongSum => 0,
+        SetUpRefusal::HardwareReduced => 0,
+        SetUpRefusal::BlockLength => 0,
+        SetUpRefusal::BlockPlace => 0,
+        SetUpRefusal::BlocksOverlap => 0,
+        SetUpRefusal::Gpe1Numbers => 0,
+        SetUpRefusal::SameCommands => 0,
+        SetUpRefusal::WrongHomes => 0,
+        SetUpRefusal::SleepPairs => 0,
+    }
+}
+
 pub fn number(a: SetUpAnswer) -> u8
     ensures { λ r. ⌜ r ≡ answerNumber a ⌝ }
 {
     match a {
         SetUpAnswer::Done => 0,
-        SetUpAnswer::TableShort => 1,
-        SetUpAnswer::NoSignature => 2,
-        SetUpAnswer::WrongLength => 3,
-        SetUpAnswer::WrongSum => 4,
-        SetUpAnswer::HardwareReduced => 5,
-        SetUpAnswer::BlockLength => 6,
-        SetUpAnswer::BlockPlace => 7,
-        SetUpAnswer::BlocksOverlap => 8,
-        SetUpAnswer::Gpe1Numbers => 9,
-        SetUpAnswer::SameCommands => 10,
-        SetUpAnswer::WrongHomes => 11,
-        SetUpAnswer::SleepPairs => 12,
+        SetUpAnswer::Refused(line) => refusal_number(line),
+    }
+}
+
+pub fn value(a: SetUpAnswer) -> u32
+    ensures { λ r. ⌜ r ≡ answerValue a ⌝ }
+{
+    match a {
+        SetUpAnswer::Done => 0,
+        SetUpAnswer::Refused(line) => refusal_value(line),
     }
 }
 
@@ -74,34 +121,31 @@ pub fn judge(s: Settings) -> SetUpAnswer
     ensures { λ r. ⌜ r ≡ firstFailing (settingsRules s) ⌝ }
 {
     if hardware_reduced(s) {
-        return SetUpAnswer::HardwareReduced;
+        return SetUpAnswer::Refused(SetUpRefusal::HardwareReduced);
     }
     if length_refused(s) {
-        return SetUpAnswer::BlockLength;
+        return SetUpAnswer::Refused(SetUpRefusal::BlockLength);
     }
     if place_refused(s) {
-        return SetUpAnswer::BlockPlace;
+        return SetUpAnswer::Refused(SetUpRefusal::BlockPlace);
     }
     if overlap_refused(s) {
-        return SetUpAnswer::BlocksOverlap;
+        return SetUpAnswer::Refused(SetUpRefusal::BlocksOverlap);
     }
     if gpe_refused(s) {
-        return SetUpAnswer::Gpe1Numbers;
+        return SetUpAnswer::Refused(SetUpRefusal::Gpe1Numbers);
     }
     if commands_refused(s) {
-        return SetUpAnswer::SameCommands;
+        return SetUpAnswer::Refused(SetUpRefusal::SameCommands);
     }
     if homes_refused(s) {
-        return SetUpAnswer::WrongHomes;
+        return SetUpAnswer::Refused(SetUpRefusal::WrongHomes);
     }
     if sleep_pairs_refused(s) {
-        return SetUpAnswer::SleepPairs;
+        return SetUpAnswer::Refused(SetUpRefusal::SleepPairs);
     }
     SetUpAnswer::Done
 }
-
-// SMI_CMD and the eight blocks of the FADT.
-pub const BLOCKS: usize = 9;
 
 // The blocks in the order of their FADT address fields, SMI_CMD first.
 pub fn blocks(s: Settings) -> [Block; BLOCKS]
@@ -130,9 +174,6 @@ fn wrong_length(n: u8, b: Block) -> bool
 {
     is_present(b) & (b.length != n)
 }
-
-// The longest GPE block.
-pub const GPE_LONGEST: u8 = 16;
 
 fn wrong_gpe_length(b: Block) -> bool
     ensures { λ r. ⌜ r ≡ wrongGpeLength b ⌝ }

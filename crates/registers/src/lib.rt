@@ -10,6 +10,7 @@ ghost use mathlib.Core.Path.{_≡_};
 ghost use Prim.Native.Nat.{_-_, _%_, _^_};
 ghost use lib.Bits.{bitAnd};
 ghost use lib.ListN.{getD, set};
+ghost use Rattle.bits.specs.Cell.{clearedBy, takenBy};
 ghost use Rattle.machine.specs.Cells.{
   homesIn,
   statusIn,
@@ -20,8 +21,6 @@ ghost use Rattle.machine.specs.Cells.{
   statusRegister,
   enableRegister,
   clearable,
-  statusCleared,
-  enableTaken,
   controlIn,
   hasPm1bCnt,
   slpTyp,
@@ -53,7 +52,7 @@ fn status_in(s: Settings, b: bool) -> u16
     platform::status_cells(s) & homes_in(s.event_homes, b)
 }
 
-fn enable_in(s: Settings, b: bool) -> u16
+pub fn enable_in(s: Settings, b: bool) -> u16
     ensures { λ r. ⌜ r ≡ enableIn s b ⌝ }
 {
     platform::enable_cells(s) & homes_in(s.event_homes, b)
@@ -109,7 +108,7 @@ pub fn enable_register(m: Machine, b: bool) -> u16
 }
 
 // The status bits that a write to the block may clear.
-fn clearable(m: Machine, b: bool) -> u16
+pub fn clearable(m: Machine, b: bool) -> u16
     ensures { λ r. ⌜ r ≡ clearable m b ⌝ }
 {
     let s = m.settings;
@@ -117,35 +116,33 @@ fn clearable(m: Machine, b: bool) -> u16
 }
 
 // Writing one to a status bit clears it; writing zero keeps it. At the status half's first byte, and at its second.
-pub fn status_low(m: Machine, b: bool, width: u32, written: u32) -> u16
-    ensures { λ r. ⌜ r ≡ statusCleared m b width 0 written ⌝ }
+pub fn status_low(sts: u16, mask: u16, width: u32, written: u32) -> u16
+    ensures { λ r. ⌜ r ≡ clearedBy 16 sts (placed 0 written) (bitAnd mask (covered width 0)) ⌝ }
 {
-    let mask = clearable(m, b) & from_low(width);
-    bits::clear16(m.pm1_sts, low_in(written, mask), mask)
+    let bits = mask & from_low(width);
+    bits::clear16(sts, low_in(written, bits), bits)
 }
 
-pub fn status_high(m: Machine, b: bool, written: u32) -> u16
-    ensures { λ r. ⌜ r ≡ statusCleared m b 1 1 written ⌝ }
+pub fn status_high(sts: u16, mask: u16, written: u32) -> u16
+    ensures { λ r. ⌜ r ≡ clearedBy 16 sts (placed 1 written) (bitAnd mask (covered 1 1)) ⌝ }
 {
-    let mask = clearable(m, b) & 0xff00;
-    bits::clear16(m.pm1_sts, high_in(written, mask), mask)
+    let bits = mask & 0xff00;
+    bits::clear16(sts, high_in(written, bits), bits)
 }
 
 // An enable bit takes the value written. At the enable half's first byte, and at its second.
-pub fn enable_low(m: Machine, b: bool, width: u32, written: u32) -> u16
-    ensures { λ r. ⌜ r ≡ enableTaken m b width 2 written ⌝ }
+pub fn enable_low(en: u16, mask: u16, width: u32, written: u32) -> u16
+    ensures { λ r. ⌜ r ≡ takenBy 16 en (placed 2 written) (bitAnd mask (covered width 2)) ⌝ }
 {
-    let s = m.settings;
-    let mask = enable_in(s, b) & from_low(width);
-    bits::take16(m.pm1_en, low_in(written, mask), mask)
+    let bits = mask & from_low(width);
+    bits::take16(en, low_in(written, bits), bits)
 }
 
-pub fn enable_high(m: Machine, b: bool, written: u32) -> u16
-    ensures { λ r. ⌜ r ≡ enableTaken m b 1 3 written ⌝ }
+pub fn enable_high(en: u16, mask: u16, written: u32) -> u16
+    ensures { λ r. ⌜ r ≡ takenBy 16 en (placed 3 written) (bitAnd mask (covered 1 3)) ⌝ }
 {
-    let s = m.settings;
-    let mask = enable_in(s, b) & 0xff00;
-    bits::take16(m.pm1_en, high_in(written, mask), mask)
+    let bits = mask & 0xff00;
+    bits::take16(en, high_in(written, bits), bits)
 }
 
 // What is written, at its place in a control register.

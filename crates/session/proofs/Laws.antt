@@ -1,7 +1,7 @@
 -- Laws for the loops over a script's lines: one turn, and the end. Assumes nothing.
 use mathlib.Core.Bool.{Bool, true, false, cond}
 use mathlib.Core.List.{List, [], _∷_, _++_}
-use mathlib.Core.Path.{_≡_, refl, sym, _∙_, ap, ap₂}
+use mathlib.Core.Path.{_≡_, refl, sym, _∙_, ap}
 use mathlib.Core.Logic.{_⊎_, inl, inr}
 use Prim.Native.Nat.{ℕ, suc, _+_, _-_, _*_, _/_, _≤_, _<_}
 use native.Mathlib.Nat.{zero-add, suc-mul, le-trans, lt-of-le-of-lt, le-div-iff-mul-le}
@@ -17,7 +17,9 @@ use Rattle.text.proofs.Fewest.{digits-suffice, digits-fewest, digit-count-some}
 use Rattle.text.proofs.Cuts.{stop-within}
 use Rattle.text.proofs.Stores.{sets-then}
 use Rattle.text.proofs.Lines.{line-turn, line-end}
-use Rattle.platform.specs.Answer.{answerNumber}
+use Rattle.platform.specs.declared.rules.SetUpAnswer.the-variants as set-up
+use Rattle.platform.specs.declared.rules.SetUpRefusal.{SetUpRefusal}
+use Rattle.platform.proofs.Answers.{if-done, if-refused}
 use Rattle.machine.specs.declared.Machine.{Machine}
 use Rattle.machine.specs.declared.SetUp.{SetUp}
 use Rattle.model.specs.Answer.{numberOf}
@@ -31,7 +33,7 @@ use Rattle.listing.proofs.Laws.{entry-length}
 use Rattle.script.specs.StepLine.{lineOf}
 use Rattle.script.specs.declared.step_line.Line.{Line}
 use Rattle.script.specs.declared.step_line.Line.the-variants as line
-use Rattle.session.specs.Session.{limit, lineEnd, isStep, stepReads, firstUnread, stepIn, entries, listingOf, answerFor, textFor, platformLineReads, settled, unread, answerOf, bufferAfter}
+use Rattle.session.specs.Session.{limit, lineEnd, isStep, stepReads, firstUnread, stepIn, entries, listingOf, answerFor, textFor, platformLineReads, settled, unread, runAnswer, runBuffer, answerOf, bufferAfter}
 use Rattle.session.specs.declared.SessionAnswer.{SessionAnswer}
 use Rattle.session.specs.declared.SessionAnswer.the-variants as answer
 
@@ -175,6 +177,33 @@ module _ (m : Machine) (ls : List (List ℕ)) (l : List ℕ) where
       go (inl p) = omega (arith, p, listing-length)
       go (inr q) = omega (arith, listing-length, leb-false (length body) (length l - 32) q)
 
+-- ---- a run, once set up: what its test says
+
+module _ (m : Machine) (script l : List ℕ) (from found : ℕ) (f : from ≡ nextLine script 0) (u : found ≡ firstUnread (length script) 2 from (linesOf (drop from script))) where
+  abbrev Runs : SessionAnswer → List ℕ → Type 0
+  Runs r exit = (r ≡ runAnswer m script (length l)) × (exit ≡ runBuffer m script l)
+
+  same-found : found ≡ unread script
+  same-found = u ∙ ap (λ (x : ℕ). firstUnread (length script) 2 x (linesOf (drop x script))) f
+
+  -- "a later line does not read, with its line number"
+  pub line-unread : (found ≡ 0 → ⊥) → Runs (answer.Line found) l
+  unfolding runAnswer runBuffer
+  line-unread w =
+      let no : eqb (unread script) 0 ≡ false = ne-eqb _ _ (λ e. w (same-found ∙ e)) in
+      (rw no (ap answer.Line same-found), rw no refl)
+
+  -- all reads: the listing, or no room
+  pub all-read : (r : SessionAnswer) (exit : List ℕ) → found ≡ 0
+      → (r ≡ answerFor (length (listingOf m (linesOf (drop from script)))) (length l)) × (exit ≡ textFor (listingOf m (linesOf (drop from script))) l)
+      → Runs r exit
+  unfolding runAnswer runBuffer
+  all-read r exit w e =
+      let none : eqb (unread script) 0 ≡ true = eq-eqb _ _ (sym same-found ∙ w) in (
+        rw none (e .0 ∙ ap (λ (o : ℕ). answerFor (length (listingOf m (linesOf (drop o script)))) (length l)) f),
+        rw none (e .1 ∙ ap (λ (o : ℕ). textFor (listingOf m (linesOf (drop o script))) l) f),
+      )
+
 -- ---- the session: what its tests say, in their order
 
 module _ (table script l : List ℕ) where
@@ -186,42 +215,25 @@ module _ (table script l : List ℕ) where
   unfolding answerOf bufferAfter
   platform-unread p = (rw p refl, rw p refl)
 
-  module _ (made : SetUp) (number : ℕ) (p : platformLineReads script ≡ true) (q : made ≡ settled table script) (n : number ≡ answerNumber (made .answer)) where
-    same-number : number ≡ answerNumber (settled table script .answer)
-    same-number = n ∙ ap (λ (x : SetUp). answerNumber (x .answer)) q
+  module _ (made : SetUp) (p : platformLineReads script ≡ true) (q : made ≡ settled table script) where
+    same-answer : settled table script .answer ≡ made .answer
+    same-answer = ap (λ (x : SetUp). x .answer) (sym q)
 
     -- "setting up refused, with its own number"
-    pub set-up-refused : (number ≡ 0 → ⊥) → Ends (answer.SetUp number) l
+    pub set-up-refused : (r : SetUpRefusal) → made .answer ≡ set-up.Refused r → Ends (answer.SetUp r) l
     unfolding answerOf bufferAfter
-    set-up-refused z =
-        let no : eqb (answerNumber (settled table script .answer)) 0 ≡ false = ne-eqb _ _ (λ e. z (same-number ∙ e)) in
-        (rw (p, no) (ap answer.SetUp same-number), rw (p, no) refl)
+    set-up-refused r e =
+        (rw p (sym (if-refused _ _ answer.SetUp r (same-answer ∙ e))), rw p (sym (if-refused _ _ (λ line. l) r (same-answer ∙ e))))
 
-    module _ (from found : ℕ) (z : number ≡ 0) (f : from ≡ nextLine script 0) (u : found ≡ firstUnread (length script) 2 from (linesOf (drop from script))) where
-      yes : eqb (answerNumber (settled table script .answer)) 0 ≡ true
-      yes = eq-eqb _ _ (sym same-number ∙ z)
-
-      same-found : found ≡ unread script
-      same-found = u ∙ ap (λ (x : ℕ). firstUnread (length script) 2 x (linesOf (drop x script))) f
-
-      -- "a later line does not read, with its line number"
-      pub line-unread : (found ≡ 0 → ⊥) → Ends (answer.Line found) l
-      unfolding answerOf bufferAfter
-      line-unread w =
-          let no : eqb (unread script) 0 ≡ false = ne-eqb _ _ (λ e. w (same-found ∙ e)) in
-          (rw (p, yes, no) (ap answer.Line same-found), rw (p, yes, no) refl)
-
-      -- all reads: the listing, or no room
-      pub all-read : (r : SessionAnswer) (exit : List ℕ) → found ≡ 0
-          → (r ≡ answerFor (length (listingOf (made .machine) (linesOf (drop from script)))) (length l))
-          × (exit ≡ textFor (listingOf (made .machine) (linesOf (drop from script))) l)
-          → Ends r exit
-      unfolding answerOf bufferAfter
-      all-read r exit w e =
-          let none : eqb (unread script) 0 ≡ true = eq-eqb _ _ (sym same-found ∙ w) in (
-            rw (p, yes, none) (e .0 ∙ ap₂ (λ (x : SetUp) (o : ℕ). answerFor (length (listingOf (x .machine) (linesOf (drop o script)))) (length l)) q f),
-            rw (p, yes, none) (e .1 ∙ ap₂ (λ (x : SetUp) (o : ℕ). textFor (listingOf (x .machine) (linesOf (drop o script))) l) q f),
-          )
+    -- set up: the run on its machine
+    pub set-up-done : (r : SessionAnswer) (exit : List ℕ) → made .answer ≡ set-up.Done
+        → (r ≡ runAnswer (made .machine) script (length l)) × (exit ≡ runBuffer (made .machine) script l)
+        → Ends r exit
+    unfolding answerOf bufferAfter
+    set-up-done r exit e h = (
+      rw p (h .0 ∙ ap (λ (x : SetUp). runAnswer (x .machine) script (length l)) q ∙ sym (if-done _ _ answer.SetUp (same-answer ∙ e))),
+      rw p (h .1 ∙ ap (λ (x : SetUp). runBuffer (x .machine) script l) q ∙ sym (if-done _ _ (λ line. l) (same-answer ∙ e))),
+    )
 
 -- ---- room for any answers
 

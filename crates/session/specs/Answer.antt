@@ -1,5 +1,6 @@
 -- The answers of a session: a number and a value for each.
 use Prim.Native.Nat.{ℕ}
+use Rattle.platform.specs.Answer.{refusalNumber, refusalValue}
 use Rattle.session.specs.declared.SessionAnswer.{SessionAnswer}
 use Rattle.session.specs.declared.SessionAnswer.the-variants as answer
 
@@ -7,7 +8,7 @@ use Rattle.session.specs.declared.SessionAnswer.the-variants as answer
 abbrev pub numberOf : SessionAnswer → ℕ
 numberOf (answer.Written length) = 0
 numberOf answer.PlatformLine = 46
-numberOf (answer.SetUp number) = number
+numberOf (answer.SetUp r) = refusalNumber r
 numberOf (answer.Line number) = 46
 numberOf answer.NoRoom = 43
 
@@ -15,6 +16,6 @@ numberOf answer.NoRoom = 43
 abbrev pub valueOf : SessionAnswer → ℕ
 valueOf (answer.Written length) = length
 valueOf answer.PlatformLine = 1
-valueOf (answer.SetUp number) = 0
+valueOf (answer.SetUp r) = refusalValue r
 valueOf (answer.Line number) = number
 valueOf answer.NoRoom = 0

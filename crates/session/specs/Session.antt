@@ -5,7 +5,7 @@ use Prim.Native.Nat.{ℕ, suc, _+_, min}
 use lib.Dec.{eqb, leb}
 use lib.ListN.{length, drop}
 use Rattle.text.specs.Parts.{lf, front, linesOf, nextLine}
-use Rattle.platform.specs.Answer.{answerNumber}
+use Rattle.platform.specs.Answer.{ifDone}
 use Rattle.machine.specs.SetUp.{setUpOf}
 use Rattle.machine.specs.declared.Machine.{Machine}
 use Rattle.machine.specs.declared.SetUp.{SetUp}
@@ -84,32 +84,35 @@ stepLines script = linesOf (drop (nextLine script 0) script)
 abbrev pub unread : List ℕ → ℕ
 unread script = firstUnread (length script) 2 (nextLine script 0) (stepLines script)
 
+-- once set up: the first later line that does not read, then room
+unfoldable pub runAnswer : Machine → List ℕ → ℕ → SessionAnswer
+runAnswer m script room =
+    cond (eqb (unread script) 0)
+    (answerFor (length (listingOf m (stepLines script))) room)
+    (answer.Line (unread script))
+
+-- the lent buffer after it: "nothing is printed" unless all reads and fits, and no byte past the listing is touched
+unfoldable pub runBuffer : Machine → List ℕ → List ℕ → List ℕ
+runBuffer m script buffer =
+    cond (eqb (unread script) 0)
+    (textFor (listingOf m (stepLines script)) buffer)
+    buffer
+
 module _ (table script : List ℕ) where
   -- what setting up gives
   abbrev pub settled : SetUp
   settled = setUpOf table (homesAt (platformLine script) 1) (homesAt (platformLine script) 2) (overrideIn (platformLine script)) (pairsIn (platformLine script))
 
-  abbrev pub listing : List ℕ
-  listing = listingOf (settled .machine) (stepLines script)
-
-  -- judged in this order: the platform line, setting up, the first later line that does not read, then room
+  -- judged in this order: the platform line, setting up, the later lines, room
   unfoldable pub answerOf : ℕ → SessionAnswer
   answerOf room =
       cond (platformLineReads script)
-      (cond (eqb (answerNumber (settled .answer)) 0)
-      (cond (eqb (unread script) 0)
-      (answerFor (length listing) room)
-      (answer.Line (unread script)))
-      (answer.SetUp (answerNumber (settled .answer))))
+      (ifDone (settled .answer) (runAnswer (settled .machine) script room) answer.SetUp)
       answer.PlatformLine
 
-  -- the lent buffer after it: "nothing is printed" unless all reads and fits, and no byte past the listing is touched
+  -- the lent buffer: "If setting up is refused .., nothing is printed"
   unfoldable pub bufferAfter : List ℕ → List ℕ
   bufferAfter buffer =
       cond (platformLineReads script)
-      (cond (eqb (answerNumber (settled .answer)) 0)
-      (cond (eqb (unread script) 0)
-      (textFor listing buffer)
-      buffer)
-      buffer)
+      (ifDone (settled .answer) (runBuffer (settled .machine) script buffer) (λ line. buffer))
       buffer

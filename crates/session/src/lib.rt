@@ -7,6 +7,8 @@ use machine::Machine;
 use machine::SetUp;
 use model::Step;
 use model::Stepped;
+use platform::SetUpAnswer;
+use platform::SetUpRefusal;
 use script::Line;
 use script::control_homes;
 use script::event_homes;
@@ -26,7 +28,7 @@ ghost use lib.ListN.{length, drop};
 ghost use Rattle.text.specs.Numbers.{digitCount};
 ghost use Rattle.text.specs.Parts.{lf, front, linesOf};
 ghost use Rattle.session.specs.Answer.{numberOf, valueOf};
-ghost use Rattle.session.specs.Session.{stepReads, firstUnread, stepIn, entries, listingOf, answerFor, textFor, platformLineReads, settled, answerOf, bufferAfter};
+ghost use Rattle.session.specs.Session.{stepReads, firstUnread, stepIn, entries, listingOf, answerFor, textFor, platformLineReads, settled, runAnswer, runBuffer, answerOf, bufferAfter};
 ghost use Rattle.model.specs.Step.{stepOf};
 ghost use Rattle.script.specs.StepLine.{lineOf};
 
@@ -35,8 +37,8 @@ pub enum SessionAnswer {
     Written(usize),
     // the platform line does not read
     PlatformLine,
-    // setting up is refused, with its own number
-    SetUp(u8),
+    // setting up is refused, by this line of its table
+    SetUp(SetUpRefusal),
     // a later line does not read: its number
     Line(usize),
     NoRoom,
@@ -199,6 +201,18 @@ fn settled(table: &[u8], source: &[u8]) -> SetUp
     )
 }
 
+// Lists the steps of a script on a machine, where every line after the first reads.
+fn run(buf: &mut [u8], m: Machine, source: &[u8]) -> SessionAnswer
+    ensures { λ r. ⌜ (r ≡ runAnswer m (now (source .entry)) (length (now (buf .entry)))) × (now (buf .exit) ≡ runBuffer m (now (source .entry)) (now (buf .entry))) ⌝ }
+{
+    let from = next_line(source, 0);
+    let unread = first_unread(source, from);
+    if unread == 0 {
+        return write_listing(buf, m, source, from);
+    }
+    SessionAnswer::Line(unread)
+}
+
 // Runs a script on the machine of a table and writes the listing; the lent buffer is touched only where all of it reads and fits.
 pub fn session(table: &[u8], source: &[u8], buf: &mut [u8]) -> SessionAnswer
     ensures { λ r. ⌜ (r ≡ answerOf (now (table .entry)) (now (source .entry)) (length (now (buf .entry)))) × (now (buf .exit) ≡ bufferAfter (now (table .entry)) (now (source .entry)) (now (buf .entry))) ⌝ }
@@ -206,16 +220,10 @@ pub fn session(table: &[u8], source: &[u8], buf: &mut [u8]) -> SessionAnswer
     if platform_line_reads(source) {
         let made = settled(table, source);
         let answer = made.answer;
-        let number = platform::number(answer);
-        if number == 0 {
-            let from = next_line(source, 0);
-            let unread = first_unread(source, from);
-            if unread == 0 {
-                return write_listing(buf, made.machine, source, from);
-            }
-            return SessionAnswer::Line(unread);
-        }
-        return SessionAnswer::SetUp(number);
+        return match answer {
+            SetUpAnswer::Done => run(buf, made.machine, source),
+            SetUpAnswer::Refused(line) => SessionAnswer::SetUp(line),
+        };
     }
     SessionAnswer::PlatformLine
 }
@@ -227,7 +235,7 @@ pub fn number(a: SessionAnswer) -> u8
     match a {
         SessionAnswer::Written(_) => 0,
         SessionAnswer::PlatformLine => 46,
-        SessionAnswer::SetUp(n) => n,
+        SessionAnswer::SetUp(line) => platform::refusal_number(line),
         SessionAnswer::Line(_) => 46,
         SessionAnswer::NoRoom => 43,
     }
@@ -239,7 +247,7 @@ pub fn value(a: SessionAnswer) -> usize
     match a {
         SessionAnswer::Written(length) => length,
         SessionAnswer::PlatformLine => 1,
-        SessionAnswer::SetUp(_) => 0,
+        SessionAnswer::SetUp(line) => platform::refusal_value(line) as usize,
         SessionAnswer::Line(line) => line,
         SessionAnswer::NoRoom => 0,
     }

@@ -5,9 +5,11 @@ use mathlib.Core.Path.{_≡_, refl}
 use Prim.Native.Nat.{ℕ, zero, suc}
 use lib.Dec.{eqb}
 use lib.ListN.{length}
-use Rattle.platform.specs.Answer.{answerNumber}
+use Rattle.platform.specs.Answer.{ifDone}
+use Rattle.platform.specs.declared.rules.SetUpAnswer.{SetUpAnswer}
+use Rattle.platform.specs.declared.rules.SetUpAnswer.the-variants as set-up
 use Rattle.listing.specs.Entry.{putAt}
-use Rattle.session.specs.Session.{textFor, platformLineReads, settled, unread, listing, bufferAfter}
+use Rattle.session.specs.Session.{listingOf, textFor, platformLineReads, stepLines, settled, unread, runBuffer, bufferAfter}
 use Rattle.session.proofs.Laws.{put-length}
 use Rattle.session_loop.specs.Sessions.{sessionTurn, sumAfter, buffersAfter}
 
@@ -31,11 +33,14 @@ module _ (table script : List ℕ) where
 
   -- a session keeps the buffer's length
   pub buffer-length : (buffer : List ℕ) → length (bufferAfter table script buffer) ≡ length buffer
-  unfolding bufferAfter textFor
-  buffer-length buffer = go (platformLineReads script) (eqb (answerNumber (settled table script .answer)) 0) (eqb (unread script) 0)
+  unfolding bufferAfter runBuffer textFor
+  buffer-length buffer = go (platformLineReads script) (settled table script .answer) (eqb (unread script) 0)
     where
-      go : (a b c : Bool) → length (cond a (cond b (cond c (putAt buffer 0 (listing table script)) buffer) buffer) buffer) ≡ length buffer
-      go true true true = put-length buffer 0 (listing table script)
-      go true true false = refl
-      go true false c = refl
+      text : List ℕ
+      text = listingOf (settled table script .machine) (stepLines script)
+
+      go : (a : Bool) (b : SetUpAnswer) (c : Bool) → length (cond a (ifDone b (cond c (putAt buffer 0 text) buffer) (λ line. buffer)) buffer) ≡ length buffer
+      go true set-up.Done true = put-length buffer 0 text
+      go true set-up.Done false = refl
+      go true (set-up.Refused r) c = refl
       go false b c = refl

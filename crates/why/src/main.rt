@@ -68,11 +68,11 @@ fn tell(answer: SessionAnswer, source: &[u8]) {
                 say(b"it is no platform line\n");
             }
         }
-        SessionAnswer::SetUp(number) => {
+        SessionAnswer::SetUp(refusal) => {
             say(b"setting up is refused: ");
-            count(number as usize);
+            count(platform::refusal_number(refusal) as usize);
             say(b", ");
-            words::refusal(number);
+            words::refusal(refusal);
         }
         SessionAnswer::Line(line) => {
             say(b"line ");

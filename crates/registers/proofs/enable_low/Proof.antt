@@ -4,9 +4,6 @@ use Rattle.bits.proofs.Algebra.{masked-twice}
 use Rattle.registers.proofs.enable_low.Statement.{statement}
 use Rattle.registers.proofs.enable_low.Tie as tie
 
-enable-in-requires : tie.Need-enable-in-requires
-enable-in-requires c κs = search needs
-
 from-low-requires : tie.Need-from-low-requires
 from-low-requires c κs = search needs
 
@@ -17,9 +14,7 @@ take16-requires : tie.Need-take16-requires
 take16-requires c κs = search needs
 
 returns : tie.Need-returns
-returns c = simp (c .take16 .ensures, c .before .low-in .ensures, c .before .before .from-low .ensures, c .before .before .before .enable-in .ensures, masked-twice)
+returns c = simp (c .take16 .ensures, c .before .low-in .ensures, c .before .before .from-low .ensures, masked-twice)
 
 pub enable-low-spec : {M : Type 1} → statement M
-enable-low-spec =
-    tie.close
-    (tie.spec enable-in-requires from-low-requires low-in-requires take16-requires returns)
+enable-low-spec = tie.close (tie.spec from-low-requires low-in-requires take16-requires returns)

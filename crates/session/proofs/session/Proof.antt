@@ -1,6 +1,6 @@
 -- `session::session` meets its contract: what its calls and tests say, put together, is the definition. Assumes nothing.
-use Rattle.session.proofs.Laws.{platform-unread, set-up-refused, line-unread, all-read}
 use mathlib.Core.Path.{sym, _∙_}
+use Rattle.session.proofs.Laws.{platform-unread, set-up-refused, set-up-done}
 use borrow.Author.Needs.{needs}
 use Rattle.session.proofs.session.Statement.{statement}
 use Rattle.session.proofs.session.Tie as tie
@@ -11,40 +11,34 @@ platform-line-reads-requires c κs = search needs
 settled-requires : tie.Need-settled-requires
 settled-requires c κs = search needs
 
-number-requires : tie.Need-number-requires
-number-requires c κs = search needs
+enum-told : tie.Need-enum-told
+enum-told c = search needs
 
-next-line-requires : tie.Need-next-line-requires
-next-line-requires c κs = search needs
+run-requires : tie.Need-run-requires
+run-requires c κs = search needs
 
-first-unread-requires : tie.Need-first-unread-requires
-first-unread-requires c κs = search needs
-
-write-listing-requires : tie.Need-write-listing-requires
-write-listing-requires c κs = search needs
+enum-known-answer : tie.Need-enum-known-answer
+enum-known-answer c = search needs
 
 same-length : tie.Need-same-length
 same-length c = search needs
 
 returns : tie.Need-returns
 returns c =
-    all-read (c .before .before .before .before .before .before .before .before .before .before .before .before .before .before .before .args .table .now) (c .before .before .before .before .before .before .before .before .before .before .before .before .before .before .before .args .source .now) (c .before .before .before .before .before .before .before .before .before .before .before .before .before .before .before .args .buf .now) _ _
-    (sym (c .before .before .before .before .before .before .before .before .before .before .before .platform-line-reads .ensures) ∙ c .before .before .before .before .before .before .before .before .before .before .if1 .taken) (c .before .before .before .before .before .before .before .before .before .settled .ensures) (c .before .before .before .before .before .before .before .before .number .ensures) _ _
-    (c .before .before .before .before .before .before .before .if2 .taken) (c .before .before .before .before .before .before .next-line .ensures) (c .before .before .before .before .before .first-unread .ensures) _ _ (c .before .before .before .before .if3 .taken) (c .before .before .write-listing .ensures)
+    let start : _ = c .before .before .before .before .before .before .before .before .before .before .before .before in
+    set-up-done (start .args .table .now) (start .args .source .now) (start .args .buf .now) _ (sym (c .before .before .before .before .before .before .before .before .platform-line-reads .ensures) ∙ c .before .before .before .before .before .before .before .if1 .taken)
+    (c .before .before .before .before .before .before .settled .ensures) _ _ (c .before .before .before .before .enum-told .given .1) (c .before .before .run .ensures)
 
 returns-2 : tie.Need-returns-2
 returns-2 c =
-    line-unread (c .before .before .before .before .before .before .before .before .before .before .before .args .table .now) (c .before .before .before .before .before .before .before .before .before .before .before .args .source .now) (c .before .before .before .before .before .before .before .before .before .before .before .args .buf .now) _ _
-    (sym (c .before .before .before .before .before .before .before .platform-line-reads .ensures) ∙ c .before .before .before .before .before .before .if1 .taken) (c .before .before .before .before .before .settled .ensures) (c .before .before .before .before .number .ensures) _ _
-    (c .before .before .before .if2 .taken) (c .before .before .next-line .ensures) (c .before .first-unread .ensures) (c .if3 .left)
+    let start : _ = c .before .before .before .before .before .before .before .before .before in
+    set-up-refused (start .args .table .now) (start .args .source .now) (start .args .buf .now) _ (sym (c .before .before .before .before .before .platform-line-reads .ensures) ∙ c .before .before .before .before .if1 .taken)
+    (c .before .before .before .settled .ensures) _ (c .before .answer .given .1)
 
 returns-3 : tie.Need-returns-3
 returns-3 c =
-    set-up-refused (c .before .before .before .before .before .before .before .before .args .table .now) (c .before .before .before .before .before .before .before .before .args .source .now) (c .before .before .before .before .before .before .before .before .args .buf .now) _ _
-    (sym (c .before .before .before .before .platform-line-reads .ensures) ∙ c .before .before .before .if1 .taken) (c .before .before .settled .ensures) (c .before .number .ensures) (c .if2 .left)
-
-returns-4 : tie.Need-returns-4
-returns-4 c = platform-unread (c .before .before .before .before .before .args .table .now) (c .before .before .before .before .before .args .source .now) (c .before .before .before .before .before .args .buf .now) (sym (c .before .platform-line-reads .ensures) ∙ c .if1 .left)
+    let start : _ = c .before .before .before .before .before in
+    platform-unread (start .args .table .now) (start .args .source .now) (start .args .buf .now) (sym (c .before .platform-line-reads .ensures) ∙ c .if1 .left)
 
 pub session-spec : {M : Type 1} → statement M
 session-spec =
@@ -52,12 +46,10 @@ session-spec =
     (tie.spec
     platform-line-reads-requires
     settled-requires
-    number-requires
-    next-line-requires
-    first-unread-requires
-    write-listing-requires
+    enum-told
+    run-requires
+    enum-known-answer
     same-length
     returns
     returns-2
-    returns-3
-    returns-4)
+    returns-3)

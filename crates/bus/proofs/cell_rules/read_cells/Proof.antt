@@ -15,35 +15,23 @@ enum-known-r c = search needs
 status-register-requires : tie.Need-status-register-requires
 status-register-requires c κs = search needs
 
-cast-read-low : tie.Need-cast-read-low
-cast-read-low c = search needs
-
-read-low-requires : tie.Need-read-low-requires
-read-low-requires c κs = search needs
-
-status-register-requires-2 : tie.Need-status-register-requires-2
-status-register-requires-2 c κs = search needs
-
-cast-read-high : tie.Need-cast-read-high
-cast-read-high c = search needs
-
-read-high-requires : tie.Need-read-high-requires
-read-high-requires c κs = search needs
+cast-sts : tie.Need-cast-sts
+cast-sts c = search needs
 
 enable-register-requires : tie.Need-enable-register-requires
 enable-register-requires c κs = search needs
 
-cast-read-low-2 : tie.Need-cast-read-low-2
-cast-read-low-2 c = search needs
+cast-en : tie.Need-cast-en
+cast-en c = search needs
+
+read-low-requires : tie.Need-read-low-requires
+read-low-requires c κs = search needs
+
+read-high-requires : tie.Need-read-high-requires
+read-high-requires c κs = search needs
 
 read-low-requires-2 : tie.Need-read-low-requires-2
 read-low-requires-2 c κs = search needs
-
-enable-register-requires-2 : tie.Need-enable-register-requires-2
-enable-register-requires-2 c κs = search needs
-
-cast-read-high-2 : tie.Need-cast-read-high-2
-cast-read-high-2 c = search needs
 
 read-high-requires-2 : tie.Need-read-high-requires-2
 read-high-requires-2 c κs = search needs
@@ -56,9 +44,6 @@ control-register-requires c κs = search needs
 
 read-low-requires-3 : tie.Need-read-low-requires-3
 read-low-requires-3 c κs = search needs
-
-control-register-requires-2 : tie.Need-control-register-requires-2
-control-register-requires-2 c κs = search needs
 
 read-high-requires-3 : tie.Need-read-high-requires-3
 read-high-requires-3 c κs = search needs
@@ -102,33 +87,33 @@ returns c = simp (c .enum-told .given .1)
 
 returns-2 : tie.Need-returns-2
 unfolding readOf inStatus inEnable
-returns-2 c = simp (c .read-low .ensures, c .before .status-register .ensures, c .before .before .before .before .r .given .1, c .before .before .match2 .keys1)
+returns-2 c = simp (c .read-low .ensures, c .before .before .enable-register .ensures, c .before .before .before .status-register .ensures, c .before .before .before .before .before .r .given .1, c .before .match2 .keys1)
 
 returns-3 : tie.Need-returns-3
 unfolding readOf inStatus inEnable
-returns-3 c = simp (c .read-high .ensures, c .before .status-register2 .ensures, c .before .before .before .before .r .given .1, c .before .before .match2 .keys2)
+returns-3 c = simp (c .read-high .ensures, c .before .before .enable-register .ensures, c .before .before .before .status-register .ensures, c .before .before .before .before .before .r .given .1, c .before .match2 .keys2)
 
 returns-4 : tie.Need-returns-4
 unfolding readOf inStatus inEnable
-returns-4 c = simp (c .read-low2 .ensures, c .before .enable-register .ensures, c .before .before .before .before .r .given .1, c .before .before .match2 .keys3)
+returns-4 c = simp (c .read-low2 .ensures, c .before .before .enable-register .ensures, c .before .before .before .status-register .ensures, c .before .before .before .before .before .r .given .1, c .before .match2 .keys3)
 
 returns-5 : tie.Need-returns-5
 unfolding readOf inStatus inEnable
-returns-5 c = simp (c .read-high2 .ensures, c .before .enable-register2 .ensures, c .before .before .before .before .r .given .1, c .before .before .match2 .keys4)
+returns-5 c = simp (c .read-high2 .ensures, c .before .before .enable-register .ensures, c .before .before .before .status-register .ensures, c .before .before .before .before .before .r .given .1, c .before .match2 .keys4)
 
 returns-6 : tie.Need-returns-6
-returns-6 c = let q : _ = c .match2 .rest in event-read-past _ _ _ _ _ (c .before .before .r .given .1) (past-four _ (q .0 .0 .0 .1) (q .0 .0 .1) (q .0 .1) (q .1))
+returns-6 c = let q : _ = c .match2 .rest in event-read-past _ _ _ _ _ (c .before .before .before .before .r .given .1) (past-four _ (q .0 .0 .0 .1) (q .0 .0 .1) (q .0 .1) (q .1))
 
 returns-7 : tie.Need-returns-7
 unfolding readOf
-returns-7 c = simp (c .read-low3 .ensures, c .before .control-register .ensures, c .before .before .before .before .r2 .given .1, c .before .before .match3 .keys1)
+returns-7 c = simp (c .read-low3 .ensures, c .before .before .control-register .ensures, c .before .before .before .before .r2 .given .1, c .before .match3 .keys1)
 
 returns-8 : tie.Need-returns-8
 unfolding readOf
-returns-8 c = simp (c .read-high3 .ensures, c .before .control-register2 .ensures, c .before .before .before .before .r2 .given .1, c .before .before .match3 .keys2)
+returns-8 c = simp (c .read-high3 .ensures, c .before .before .control-register .ensures, c .before .before .before .before .r2 .given .1, c .before .match3 .keys2)
 
 returns-9 : tie.Need-returns-9
-returns-9 c = let q : _ = c .match3 .rest in control-read-past _ _ _ _ _ (c .before .before .r2 .given .1) (past-two _ (q .0 .1) (q .1))
+returns-9 c = let q : _ = c .match3 .rest in control-read-past _ _ _ _ _ (c .before .before .before .r2 .given .1) (past-two _ (q .0 .1) (q .1))
 
 returns-10 : tie.Need-returns-10
 unfolding readOf
@@ -157,21 +142,16 @@ read-cells-spec =
     enum-told
     enum-known-r
     status-register-requires
-    cast-read-low
-    read-low-requires
-    status-register-requires-2
-    cast-read-high
-    read-high-requires
+    cast-sts
     enable-register-requires
-    cast-read-low-2
+    cast-en
+    read-low-requires
+    read-high-requires
     read-low-requires-2
-    enable-register-requires-2
-    cast-read-high-2
     read-high-requires-2
     enum-known-r-2
     control-register-requires
     read-low-requires-3
-    control-register-requires-2
     read-high-requires-3
     enum-told-2
     pick32-requires

@@ -1,9 +1,8 @@
 -- `bus::cell_rules::write_cells` meets its contract: each arm is the rule of its byte, and past a register's bytes a write does nothing. Assumes nothing.
 use Rattle.model.specs.Bus.{writeOf}
 use borrow.Author.Needs.{needs}
-use Rattle.model.specs.Bus.{setsSlpEn, typAfter, completes, armedAfter}
-use Rattle.machine.specs.Cells.{coversHigh, inStatus, inEnable, statusAfter, enableAfter}
-use Rattle.bus.proofs.Laws.{cell-in-status, cell-past-status, status-byte-written, enable-byte-written, past-four, past-two, event-write-past, control-write-past}
+use Rattle.machine.specs.Cells.{inStatus, inEnable, statusAfter, enableAfter}
+use Rattle.bus.proofs.Laws.{cell-in-status, cell-past-status, status-byte-written, enable-byte-written, past-four, event-write-past, control-write-past}
 use Rattle.bus.proofs.cell_rules.write_cells.Statement.{statement}
 use Rattle.bus.proofs.cell_rules.write_cells.Tie as tie
 
@@ -18,6 +17,12 @@ latch-requires c κs = search needs
 
 enum-known-r : tie.Need-enum-known-r
 enum-known-r c = search needs
+
+clearable-requires : tie.Need-clearable-requires
+clearable-requires c κs = search needs
+
+enable-in-requires : tie.Need-enable-in-requires
+enable-in-requires c κs = search needs
 
 status-low-requires : tie.Need-status-low-requires
 status-low-requires c κs = search needs
@@ -46,11 +51,8 @@ with-event-requires-4 c κs = search needs
 enum-known-r-2 : tie.Need-enum-known-r-2
 enum-known-r-2 c = search needs
 
-write-low-requires : tie.Need-write-low-requires
-write-low-requires c κs = search needs
-
-write-high-requires : tie.Need-write-high-requires
-write-high-requires c κs = search needs
+write-requires : tie.Need-write-requires
+write-requires c κs = search needs
 
 enum-told-2 : tie.Need-enum-told-2
 enum-told-2 c = search needs
@@ -88,53 +90,49 @@ returns c = simp (c .latch .ensures, c .before .low-byte .ensures, c .before .be
 
 returns-2 : tie.Need-returns-2
 unfolding writeOf inStatus inEnable statusAfter enableAfter
-returns-2 c = simp (c .with-event .ensures, c .before .status-low .ensures, c .before .before .before .before .r .given .1, c .before .before .match2 .keys1)
+returns-2 c = simp (c .with-event .ensures, c .before .status-low .ensures, c .before .before .before .enable-in .ensures, c .before .before .before .before .clearable .ensures, c .before .before .before .before .before .before .r .given .1, c .before .before .match2 .keys1)
 
 returns-3 : tie.Need-returns-3
 unfolding writeOf inStatus inEnable statusAfter enableAfter
-returns-3 c = simp (c .with-event2 .ensures, c .before .status-high .ensures, c .before .before .before .before .r .given .1, c .before .before .match2 .keys2)
+returns-3 c = simp (c .with-event2 .ensures, c .before .status-high .ensures, c .before .before .before .enable-in .ensures, c .before .before .before .before .clearable .ensures, c .before .before .before .before .before .before .r .given .1, c .before .before .match2 .keys2)
 
 returns-4 : tie.Need-returns-4
 unfolding writeOf inStatus inEnable statusAfter enableAfter
-returns-4 c = simp (c .with-event3 .ensures, c .before .enable-low .ensures, c .before .before .before .before .r .given .1, c .before .before .match2 .keys3)
+returns-4 c = simp (c .with-event3 .ensures, c .before .enable-low .ensures, c .before .before .before .enable-in .ensures, c .before .before .before .before .clearable .ensures, c .before .before .before .before .before .before .r .given .1, c .before .before .match2 .keys3)
 
 returns-5 : tie.Need-returns-5
 unfolding writeOf inStatus inEnable statusAfter enableAfter
-returns-5 c = simp (c .with-event4 .ensures, c .before .enable-high .ensures, c .before .before .before .before .r .given .1, c .before .before .match2 .keys4)
+returns-5 c = simp (c .with-event4 .ensures, c .before .enable-high .ensures, c .before .before .before .enable-in .ensures, c .before .before .before .before .clearable .ensures, c .before .before .before .before .before .before .r .given .1, c .before .before .match2 .keys4)
 
 returns-6 : tie.Need-returns-6
-returns-6 c = let q : _ = c .match2 .rest in event-write-past _ _ _ _ _ _ (c .before .before .r .given .1) (past-four _ (q .0 .0 .0 .1) (q .0 .0 .1) (q .0 .1) (q .1))
+returns-6 c = let q : _ = c .match2 .rest in event-write-past _ _ _ _ _ _ (c .before .before .before .before .r .given .1) (past-four _ (q .0 .0 .0 .1) (q .0 .0 .1) (q .0 .1) (q .1))
 
 returns-7 : tie.Need-returns-7
 unfolding writeOf
-returns-7 c = simp (c .write-low .ensures, c .before .before .before .r2 .given .1, c .before .match3 .keys1)
+returns-7 c = simp (c .write .ensures, c .before .before .before .r2 .given .1)
 
 returns-8 : tie.Need-returns-8
-unfolding writeOf completes setsSlpEn typAfter armedAfter coversHigh
-returns-8 c = simp (c .write-high .ensures, c .before .before .before .r2 .given .1, c .before .match3 .keys2)
+returns-8 c = control-write-past _ _ _ _ _ _ (c .before .before .r2 .given .1) (c .if1 .left)
 
 returns-9 : tie.Need-returns-9
-returns-9 c = let q : _ = c .match3 .rest in control-write-past _ _ _ _ _ _ (c .before .before .r2 .given .1) (past-two _ (q .0 .1) (q .1))
+unfolding writeOf
+returns-9 c = simp (c .with-arb-dis .ensures, c .before .enum-told2 .given .1)
 
 returns-10 : tie.Need-returns-10
 unfolding writeOf
-returns-10 c = simp (c .with-arb-dis .ensures, c .before .enum-told2 .given .1)
+returns-10 c = simp (c .enum-told3 .given .1)
 
 returns-11 : tie.Need-returns-11
 unfolding writeOf
-returns-11 c = simp (c .enum-told3 .given .1)
+returns-11 c = simp (c .with-gpe-sts .ensures, c .before .gpe-sts-cleared .ensures, status-byte-written (c .before .before .before .before .before .before .before .before .args .m) _ _ (c .before .before .before .before .before .before .before .before .args .written) (cell-in-status _ _ _ _ (c .before .before .before .gpe-cell .ensures) (c .before .before .if2 .taken)), c .before .before .before .before .before .r3 .given .1)
 
 returns-12 : tie.Need-returns-12
 unfolding writeOf
-returns-12 c = simp (c .with-gpe-sts .ensures, c .before .gpe-sts-cleared .ensures, status-byte-written (c .before .before .before .before .before .before .before .before .args .m) _ _ (c .before .before .before .before .before .before .before .before .args .written) (cell-in-status _ _ _ _ (c .before .before .before .gpe-cell .ensures) (c .before .before .if1 .taken)), c .before .before .before .before .before .r3 .given .1)
+returns-12 c = simp (c .with-gpe-en .ensures, c .before .gpe-en-taken .ensures, enable-byte-written (c .before .before .before .before .before .before .before .before .args .m) _ _ (c .before .before .before .before .before .before .before .before .args .written) (cell-past-status _ _ _ _ (c .before .before .before .gpe-cell .ensures) (c .before .before .if2 .left)), c .before .before .before .before .before .r3 .given .1)
 
 returns-13 : tie.Need-returns-13
 unfolding writeOf
-returns-13 c = simp (c .with-gpe-en .ensures, c .before .gpe-en-taken .ensures, enable-byte-written (c .before .before .before .before .before .before .before .before .args .m) _ _ (c .before .before .before .before .before .before .before .before .args .written) (cell-past-status _ _ _ _ (c .before .before .before .gpe-cell .ensures) (c .before .before .if1 .left)), c .before .before .before .before .before .r3 .given .1)
-
-returns-14 : tie.Need-returns-14
-unfolding writeOf
-returns-14 c = simp (c .enum-told4 .given .1)
+returns-13 c = simp (c .enum-told4 .given .1)
 
 pub write-cells-spec : {M : Type 1} → statement M
 write-cells-spec =
@@ -144,6 +142,8 @@ write-cells-spec =
     low-byte-requires
     latch-requires
     enum-known-r
+    clearable-requires
+    enable-in-requires
     status-low-requires
     with-event-requires
     status-high-requires
@@ -153,8 +153,7 @@ write-cells-spec =
     enable-high-requires
     with-event-requires-4
     enum-known-r-2
-    write-low-requires
-    write-high-requires
+    write-requires
     enum-told-2
     with-arb-dis-requires
     enum-told-3
@@ -177,5 +176,4 @@ write-cells-spec =
     returns-10
     returns-11
     returns-12
-    returns-13
-    returns-14)
+    returns-13)
