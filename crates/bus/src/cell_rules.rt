@@ -139,9 +139,9 @@ pub(crate) fn write_cells(m: Machine, r: Register, width: u32, offset: u64, writ
                 _ => m,
             }
         }
-        // one rule for both bytes: a write may latch, complete and sleep with the two together
         Register::Pm1Cnt(b) => match offset {
-            0..=1 => control::write(m, b, width, offset, written),
+            0 => control::write_low(m, b, width, written),
+            1 => control::write_high(m, b, written),
             _ => m,
         },
         Register::Pm2Cnt => with_arb_dis(m, written % 2 == 1),

@@ -1,8 +1,9 @@
 -- `bus::cell_rules::write_cells` meets its contract: each arm is the rule of its byte, and past a register's bytes a write does nothing. Assumes nothing.
 use Rattle.model.specs.Bus.{writeOf}
 use borrow.Author.Needs.{needs}
-use Rattle.machine.specs.Cells.{inStatus, inEnable, statusAfter, enableAfter}
-use Rattle.bus.proofs.Laws.{cell-in-status, cell-past-status, status-byte-written, enable-byte-written, past-four, event-write-past, control-write-past}
+use Rattle.model.specs.Bus.{setsSlpEn, typAfter, completes, armedAfter}
+use Rattle.machine.specs.Cells.{coversHigh, inStatus, inEnable, statusAfter, enableAfter}
+use Rattle.bus.proofs.Laws.{cell-in-status, cell-past-status, status-byte-written, enable-byte-written, past-four, past-two, event-write-past, control-write-past}
 use Rattle.bus.proofs.cell_rules.write_cells.Statement.{statement}
 use Rattle.bus.proofs.cell_rules.write_cells.Tie as tie
 
@@ -51,8 +52,11 @@ with-event-requires-4 c κs = search needs
 enum-known-r-2 : tie.Need-enum-known-r-2
 enum-known-r-2 c = search needs
 
-write-requires : tie.Need-write-requires
-write-requires c κs = search needs
+write-low-requires : tie.Need-write-low-requires
+write-low-requires c κs = search needs
+
+write-high-requires : tie.Need-write-high-requires
+write-high-requires c κs = search needs
 
 enum-told-2 : tie.Need-enum-told-2
 enum-told-2 c = search needs
@@ -109,30 +113,34 @@ returns-6 c = let q : _ = c .match2 .rest in event-write-past _ _ _ _ _ _ (c .be
 
 returns-7 : tie.Need-returns-7
 unfolding writeOf
-returns-7 c = simp (c .write .ensures, c .before .before .before .r2 .given .1)
+returns-7 c = simp (c .write-low .ensures, c .before .before .before .r2 .given .1, c .before .match3 .keys1)
 
 returns-8 : tie.Need-returns-8
-returns-8 c = control-write-past _ _ _ _ _ _ (c .before .before .r2 .given .1) (c .if1 .left)
+unfolding writeOf completes setsSlpEn typAfter armedAfter coversHigh
+returns-8 c = simp (c .write-high .ensures, c .before .before .before .r2 .given .1, c .before .match3 .keys2)
 
 returns-9 : tie.Need-returns-9
-unfolding writeOf
-returns-9 c = simp (c .with-arb-dis .ensures, c .before .enum-told2 .given .1)
+returns-9 c = let q : _ = c .match3 .rest in control-write-past _ _ _ _ _ _ (c .before .before .r2 .given .1) (past-two _ (q .0 .1) (q .1))
 
 returns-10 : tie.Need-returns-10
 unfolding writeOf
-returns-10 c = simp (c .enum-told3 .given .1)
+returns-10 c = simp (c .with-arb-dis .ensures, c .before .enum-told2 .given .1)
 
 returns-11 : tie.Need-returns-11
 unfolding writeOf
-returns-11 c = simp (c .with-gpe-sts .ensures, c .before .gpe-sts-cleared .ensures, status-byte-written (c .before .before .before .before .before .before .before .before .args .m) _ _ (c .before .before .before .before .before .before .before .before .args .written) (cell-in-status _ _ _ _ (c .before .before .before .gpe-cell .ensures) (c .before .before .if2 .taken)), c .before .before .before .before .before .r3 .given .1)
+returns-11 c = simp (c .enum-told3 .given .1)
 
 returns-12 : tie.Need-returns-12
 unfolding writeOf
-returns-12 c = simp (c .with-gpe-en .ensures, c .before .gpe-en-taken .ensures, enable-byte-written (c .before .before .before .before .before .before .before .before .args .m) _ _ (c .before .before .before .before .before .before .before .before .args .written) (cell-past-status _ _ _ _ (c .before .before .before .gpe-cell .ensures) (c .before .before .if2 .left)), c .before .before .before .before .before .r3 .given .1)
+returns-12 c = simp (c .with-gpe-sts .ensures, c .before .gpe-sts-cleared .ensures, status-byte-written (c .before .before .before .before .before .before .before .before .args .m) _ _ (c .before .before .before .before .before .before .before .before .args .written) (cell-in-status _ _ _ _ (c .before .before .before .gpe-cell .ensures) (c .before .before .if1 .taken)), c .before .before .before .before .before .r3 .given .1)
 
 returns-13 : tie.Need-returns-13
 unfolding writeOf
-returns-13 c = simp (c .enum-told4 .given .1)
+returns-13 c = simp (c .with-gpe-en .ensures, c .before .gpe-en-taken .ensures, enable-byte-written (c .before .before .before .before .before .before .before .before .args .m) _ _ (c .before .before .before .before .before .before .before .before .args .written) (cell-past-status _ _ _ _ (c .before .before .before .gpe-cell .ensures) (c .before .before .if1 .left)), c .before .before .before .before .before .r3 .given .1)
+
+returns-14 : tie.Need-returns-14
+unfolding writeOf
+returns-14 c = simp (c .enum-told4 .given .1)
 
 pub write-cells-spec : {M : Type 1} → statement M
 write-cells-spec =
@@ -153,7 +161,8 @@ write-cells-spec =
     enable-high-requires
     with-event-requires-4
     enum-known-r-2
-    write-requires
+    write-low-requires
+    write-high-requires
     enum-told-2
     with-arb-dis-requires
     enum-told-3
@@ -176,4 +185,5 @@ write-cells-spec =
     returns-10
     returns-11
     returns-12
-    returns-13)
+    returns-13
+    returns-14)

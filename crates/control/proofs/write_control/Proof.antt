@@ -1,8 +1,8 @@
--- `control::write` meets its contract: what its calls and tests say, put together, is the definition. Assumes nothing.
+-- `control::write_control` meets its contract: what its calls and tests say, put together, is the definition. Assumes nothing.
 use mathlib.Core.Path.{sym, _∙_}
 use borrow.Author.Needs.{needs}
-use Rattle.control.proofs.write.Statement.{statement}
-use Rattle.control.proofs.write.Tie as tie
+use Rattle.control.proofs.write_control.Statement.{statement}
+use Rattle.control.proofs.write_control.Tie as tie
 
 controlled-requires : tie.Need-controlled-requires
 controlled-requires c κs = search needs
@@ -22,8 +22,8 @@ returns c = simp (c .complete .ensures, c .before .named-state .ensures, sym (c 
 returns-2 : tie.Need-returns-2
 returns-2 c = simp (sym (c .before .completes .ensures) ∙ c .if1 .left, c .before .before .controlled .ensures)
 
-pub write-spec : {M : Type 1} → statement M
-write-spec =
+pub write-control-spec : {M : Type 1} → statement M
+write-control-spec =
     tie.close
     (tie.spec
     controlled-requires
