@@ -4,7 +4,7 @@ fn main() {
     let here = std::env::var("CARGO_MANIFEST_DIR").expect("cargo says where the package is");
     let archives = format!("{here}/../target/staticlib");
     println!("cargo:rustc-link-search=native={archives}");
-    for name in ["loops", "session_loop"] {
+    for name in ["speed_steps", "speed_session"] {
         println!("cargo:rustc-link-lib=static={name}");
         println!("cargo:rerun-if-changed={archives}/lib{name}.a");
     }

@@ -1,10 +1,10 @@
-//! The proved loops of `crates/loops` and `crates/session_loop`, as `rt staticlib` exports them. A slice is its address and its length.
+//! The proved loops of `crates/speed_steps` and `crates/speed_session`, as `rt staticlib` exports them. A slice is its address and its length.
 
 mod exported {
     extern "C" {
-        pub fn loops_steps(table: *const u8, table_len: usize, base: u64, row: u32, n: u64) -> u64;
-        pub fn loops_set_up(table: *const u8, table_len: usize, n: u64) -> u64;
-        pub fn loops_session(
+        pub fn speed_run_steps(table: *const u8, table_len: usize, base: u64, row: u32, n: u64) -> u64;
+        pub fn speed_run_set_up(table: *const u8, table_len: usize, n: u64) -> u64;
+        pub fn speed_run_session(
             table: *const u8,
             table_len: usize,
             script: *const u8,
@@ -19,16 +19,16 @@ mod exported {
 // None of the three requires anything of its caller but slices that are there for the call.
 
 pub fn steps(table: &[u8], base: u64, row: u32, n: u64) -> u64 {
-    unsafe { exported::loops_steps(table.as_ptr(), table.len(), base, row, n) }
+    unsafe { exported::speed_run_steps(table.as_ptr(), table.len(), base, row, n) }
 }
 
 pub fn set_up(table: &[u8], n: u64) -> u64 {
-    unsafe { exported::loops_set_up(table.as_ptr(), table.len(), n) }
+    unsafe { exported::speed_run_set_up(table.as_ptr(), table.len(), n) }
 }
 
 pub fn session(table: &[u8], script: &[u8], buffer: &mut [u8], n: u64) -> u64 {
     unsafe {
-        exported::loops_session(
+        exported::speed_run_session(
             table.as_ptr(),
             table.len(),
             script.as_ptr(),

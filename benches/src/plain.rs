@@ -1,4 +1,4 @@
-//! The same loops over the plain model of `tests/model`, step by step as in `crates/loops/specs`.
+//! The same loops over the plain model of `tests/model`, step by step as in `crates/speed_steps/specs`.
 
 use model::{set_up as set_up_machine, Machine, Settings, Step};
 

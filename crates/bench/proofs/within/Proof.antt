@@ -1,4 +1,3 @@
--- `bench::within` meets its contract: what its calls and tests say, put together, is the definition. Assumes nothing.
 use lib.Seq.{length-take-le}
 use mathlib.Core.Path.{sym}
 use borrow.Author.Needs.{needs}

@@ -1,4 +1,3 @@
--- `bus::read` meets its contract: what its calls and tests say, put together, is the definition. Assumes nothing.
 use borrow.Author.Needs.{needs}
 use Rattle.model.specs.Ports.{registerAt, offsetAt}
 use Rattle.model.specs.Step.{answerTo}

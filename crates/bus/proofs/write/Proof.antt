@@ -1,4 +1,3 @@
--- `bus::write` meets its contract: what its calls and tests say, put together, is the definition. Assumes nothing.
 use mathlib.Core.Path.{sym, _∙_, ap}
 use borrow.Author.Needs.{needs}
 use Rattle.model.specs.Ports.{registerAt, offsetAt}

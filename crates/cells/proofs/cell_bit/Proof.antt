@@ -1,4 +1,3 @@
--- `cells::cell_bit` meets its contract: what its calls and tests say, put together, is the definition. Assumes nothing.
 use borrow.Author.Needs.{needs}
 use Rattle.cells.proofs.cell_bit.Statement.{statement}
 use Rattle.cells.proofs.cell_bit.Tie as tie

@@ -1,4 +1,3 @@
--- `control::armed_after` meets its contract: what its calls and tests say, put together, is the definition. Assumes nothing.
 use Rattle.model.specs.Bus.{armedAfter}
 use borrow.Author.Needs.{needs}
 use Rattle.control.proofs.armed_after.Statement.{statement}

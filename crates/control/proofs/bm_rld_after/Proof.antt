@@ -1,4 +1,3 @@
--- `control::bm_rld_after` meets its contract: what its calls and tests say, put together, is the definition. Assumes nothing.
 use Rattle.model.specs.Bus.{bmRldAfter}
 use borrow.Author.Needs.{needs}
 use Rattle.control.proofs.bm_rld_after.Statement.{statement}

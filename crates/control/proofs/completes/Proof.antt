@@ -1,4 +1,3 @@
--- `control::completes` meets its contract: what its calls and tests say, put together, is the definition. Assumes nothing.
 use Rattle.model.specs.Bus.{completes}
 use borrow.Author.Needs.{needs}
 use Rattle.control.proofs.completes.Statement.{statement}

@@ -1,4 +1,3 @@
--- `control::controlled` meets its contract: what its calls and tests say, put together, is the definition. Assumes nothing.
 use borrow.Author.Needs.{needs}
 use Rattle.control.proofs.controlled.Statement.{statement}
 use Rattle.control.proofs.controlled.Tie as tie

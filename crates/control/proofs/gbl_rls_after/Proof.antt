@@ -1,4 +1,3 @@
--- `control::gbl_rls_after` meets its contract: what its calls and tests say, put together, is the definition. Assumes nothing.
 use Rattle.model.specs.Bus.{gblRlsAfter}
 use borrow.Author.Needs.{needs}
 use Rattle.control.proofs.gbl_rls_after.Statement.{statement}

@@ -1,4 +1,3 @@
--- `control::named_state` meets its contract: what its calls and tests say, put together, is the definition. Assumes nothing.
 use borrow.Author.Needs.{needs}
 use Rattle.control.proofs.named_state.Statement.{statement}
 use Rattle.control.proofs.named_state.Tie as tie

@@ -1,4 +1,3 @@
--- `control::names_none` meets its contract: what its calls and tests say, put together, is the definition. Assumes nothing.
 use mathlib.Core.Path.{sym, _∙_}
 use Rattle.model.specs.Bus.{namesNone}
 use borrow.Author.Needs.{needs}

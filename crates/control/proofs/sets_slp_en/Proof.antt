@@ -1,4 +1,3 @@
--- `control::sets_slp_en` meets its contract: what its calls and tests say, put together, is the definition. Assumes nothing.
 use Rattle.model.specs.Bus.{setsSlpEn}
 use borrow.Author.Needs.{needs}
 use Rattle.control.proofs.sets_slp_en.Statement.{statement}

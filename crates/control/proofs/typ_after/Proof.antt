@@ -1,4 +1,3 @@
--- `control::typ_after` meets its contract: what its calls and tests say, put together, is the definition. Assumes nothing.
 use Rattle.model.specs.Bus.{typAfter}
 use borrow.Author.Needs.{needs}
 use Rattle.control.proofs.typ_after.Statement.{statement}

@@ -1,4 +1,3 @@
--- `control::write_control` meets its contract: what its calls and tests say, put together, is the definition. Assumes nothing.
 use mathlib.Core.Path.{sym, _∙_}
 use borrow.Author.Needs.{needs}
 use Rattle.control.proofs.write_control.Statement.{statement}

@@ -1,4 +1,3 @@
--- `events::done` meets its contract: what its calls and tests say, put together, is the definition. Assumes nothing.
 use Rattle.model.specs.Events.{eventOf}
 use borrow.Author.Needs.{needs}
 use Rattle.events.proofs.done.Statement.{statement}

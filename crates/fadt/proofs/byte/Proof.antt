@@ -1,4 +1,3 @@
--- `fadt::byte` meets its contract: what its calls and tests say, put together, is the definition. Assumes nothing.
 use lib.ListN.{List·getD-eq-default}
 use mathlib.Core.Path.{sym}
 use borrow.Author.Needs.{needs}

@@ -1,4 +1,3 @@
--- `fadt::dword_at` meets its contract: what its calls and tests say, put together, is the definition. Assumes nothing.
 use Rattle.fadt.specs.Fields.{dword}
 use borrow.Author.Needs.{needs}
 use Rattle.fadt.proofs.dword_at.Statement.{statement}

@@ -1,4 +1,3 @@
--- `fadt::no_signature` meets its contract: what its calls and tests say, put together, is the definition. Assumes nothing.
 use mathlib.Core.Bool.{and-true}
 use Rattle.fadt.specs.Table.{noSignature, standsAt}
 use borrow.Author.Needs.{needs}

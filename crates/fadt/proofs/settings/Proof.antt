@@ -1,4 +1,3 @@
--- `fadt::settings` meets its contract: what its calls and tests say, put together, is the definition. Assumes nothing.
 use borrow.Author.Needs.{needs}
 use Rattle.fadt.proofs.settings.Statement.{statement}
 use Rattle.fadt.proofs.settings.Tie as tie

@@ -1,4 +1,3 @@
--- `fadt::table_short` meets its contract: what its calls and tests say, put together, is the definition. Assumes nothing.
 use mathlib.Core.Path.{refl}
 use Rattle.fadt.specs.Table.{tableShort}
 use Rattle.fadt.proofs.table_short.Statement.{statement}

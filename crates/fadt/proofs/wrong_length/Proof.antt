@@ -1,4 +1,3 @@
--- `fadt::wrong_length` meets its contract: what its calls and tests say, put together, is the definition. Assumes nothing.
 use Rattle.fadt.specs.Table.{wrongTableLength}
 use borrow.Author.Needs.{needs}
 use Rattle.fadt.proofs.wrong_length.Statement.{statement}

@@ -1,4 +1,3 @@
--- `fadt::wrong_sum` meets its contract: what its calls and tests say, put together, is the definition. Assumes nothing.
 use Rattle.fadt.specs.Table.{wrongSum}
 use borrow.Author.Needs.{needs}
 use Rattle.fadt.proofs.wrong_sum.Statement.{statement}

@@ -1,4 +1,3 @@
--- `firmware::enables_after` meets its contract: what its calls and tests say, put together, is the definition. Assumes nothing.
 use mathlib.Core.Path.{sym, _∙_}
 use Rattle.model.specs.Firmware.{enablesAfter}
 use borrow.Author.Needs.{needs}

@@ -1,4 +1,3 @@
--- `firmware::is_acpi_disable` meets its contract: what its calls and tests say, put together, is the definition. Assumes nothing.
 use mathlib.Core.Path.{refl}
 use Rattle.model.specs.Firmware.{isAcpiDisable}
 use Rattle.firmware.proofs.is_acpi_disable.Statement.{statement}

@@ -1,4 +1,3 @@
--- `firmware::is_acpi_enable` meets its contract: what its calls and tests say, put together, is the definition. Assumes nothing.
 use mathlib.Core.Path.{refl}
 use Rattle.model.specs.Firmware.{isAcpiEnable}
 use Rattle.firmware.proofs.is_acpi_enable.Statement.{statement}

@@ -1,4 +1,3 @@
--- `firmware::sci_en_after` meets its contract: what its calls and tests say, put together, is the definition. Assumes nothing.
 use mathlib.Core.Path.{sym, _∙_}
 use Rattle.model.specs.Firmware.{sciEnAfter}
 use borrow.Author.Needs.{needs}

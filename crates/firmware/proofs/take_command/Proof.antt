@@ -1,4 +1,3 @@
--- `firmware::take_command` meets its contract: what its calls and tests say, put together, is the definition. Assumes nothing.
 use borrow.Author.Needs.{needs}
 use Rattle.firmware.proofs.take_command.Statement.{statement}
 use Rattle.firmware.proofs.take_command.Tie as tie

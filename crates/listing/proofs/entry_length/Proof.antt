@@ -1,4 +1,3 @@
--- `listing::entry_length` meets its contract: what its calls and tests say, put together, is the definition. Assumes nothing.
 use borrow.Author.Needs.{needs}
 use native.Mathlib.Omega.{arith}
 use Rattle.listing.proofs.Laws.{at-most-20, sum-fits, rest-fits}

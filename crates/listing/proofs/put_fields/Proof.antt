@@ -1,4 +1,3 @@
--- `listing::put_fields` meets its contract: what its calls and tests say, put together, is the definition. Assumes nothing.
 use borrow.Author.Needs.{needs}
 use Rattle.listing.proofs.Laws.{fields-written}
 use Rattle.listing.proofs.put_fields.Statement.{statement}

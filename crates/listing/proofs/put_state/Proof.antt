@@ -1,4 +1,3 @@
--- `listing::put_state` meets its contract: what its calls and tests say, put together, is the definition. Assumes nothing.
 use denote.Ref.{now}
 use Rattle.listing.proofs.Laws.{state-written}
 use borrow.Author.Needs.{needs}

@@ -1,4 +1,3 @@
--- `listing::put_value` meets its contract: what its calls and tests say, put together, is the definition. Assumes nothing.
 use borrow.Author.Needs.{needs}
 use Rattle.listing.proofs.Laws.{after-digits}
 use Rattle.listing.proofs.put_value.Statement.{statement}

@@ -1,4 +1,3 @@
--- `listing::state_digit` meets its contract: what its calls and tests say, put together, is the definition. Assumes nothing.
 use borrow.Author.Needs.{needs}
 use borrow.Author.Tests.{le-leb, lt-leb}
 use Rattle.listing.proofs.state_digit.Statement.{statement}

@@ -1,4 +1,3 @@
--- `machine::all_zero` meets its contract: what its calls and tests say, put together, is the definition. Assumes nothing.
 use borrow.Author.Needs.{needs}
 use Rattle.machine.proofs.all_zero.Statement.{statement}
 use Rattle.machine.proofs.all_zero.Tie as tie

@@ -1,4 +1,3 @@
--- `machine::machine_for` meets its contract: what its calls and tests say, put together, is the definition. Assumes nothing.
 use borrow.Author.Tests.{ne-eqb}
 use Rattle.machine.specs.SetUp.{machineFor}
 use borrow.Author.Needs.{needs}

@@ -1,4 +1,3 @@
--- `machine::no_settings` meets its contract: what its calls and tests say, put together, is the definition. Assumes nothing.
 use borrow.Author.Needs.{needs}
 use Rattle.machine.proofs.no_settings.Statement.{statement}
 use Rattle.machine.proofs.no_settings.Tie as tie

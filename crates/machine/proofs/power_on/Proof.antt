@@ -1,4 +1,3 @@
--- `machine::power_on` meets its contract: what its calls and tests say, put together, is the definition. Assumes nothing.
 use borrow.Author.Needs.{needs}
 use Rattle.machine.proofs.power_on.Statement.{statement}
 use Rattle.machine.proofs.power_on.Tie as tie

@@ -1,4 +1,3 @@
--- `machine::set_up` meets its contract: what its calls and tests say, put together, is the definition. Assumes nothing.
 use borrow.Author.Needs.{needs}
 use Rattle.machine.proofs.set_up.Statement.{statement}
 use Rattle.machine.proofs.set_up.Tie as tie

@@ -1,4 +1,3 @@
--- `model::accepted` meets its contract: what its calls and tests say, put together, is the definition. Assumes nothing.
 use borrow.Author.Needs.{needs}
 use Rattle.model.proofs.accepted.Statement.{statement}
 use Rattle.model.proofs.accepted.Tie as tie

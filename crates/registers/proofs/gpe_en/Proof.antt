@@ -1,4 +1,3 @@
--- `registers::gpe_en` meets its contract: what its calls and tests say, put together, is the definition. Assumes nothing.
 use Rattle.registers.proofs.gpe_en.Statement.{statement}
 use Rattle.registers.proofs.gpe_en.Tie as tie
 

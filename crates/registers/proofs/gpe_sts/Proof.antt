@@ -1,4 +1,3 @@
--- `registers::gpe_sts` meets its contract: what its calls and tests say, put together, is the definition. Assumes nothing.
 use Rattle.registers.proofs.gpe_sts.Statement.{statement}
 use Rattle.registers.proofs.gpe_sts.Tie as tie
 

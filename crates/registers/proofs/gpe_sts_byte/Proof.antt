@@ -1,4 +1,3 @@
--- `registers::gpe_sts_byte` meets its contract: what its calls and tests say, put together, is the definition. Assumes nothing.
 use borrow.Author.Needs.{needs}
 use Rattle.registers.proofs.gpe_sts_byte.Statement.{statement}
 use Rattle.registers.proofs.gpe_sts_byte.Tie as tie

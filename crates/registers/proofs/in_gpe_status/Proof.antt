@@ -1,4 +1,3 @@
--- `registers::in_gpe_status` meets its contract: what its calls and tests say, put together, is the definition. Assumes nothing.
 use Rattle.machine.specs.Cells.{inGpeStatus}
 use borrow.Author.Needs.{needs}
 use Rattle.registers.proofs.in_gpe_status.Statement.{statement}

@@ -1,4 +1,3 @@
--- `registers::read_low` meets its contract: what its calls and tests say, put together, is the definition. Assumes nothing.
 use native.Mathlib.Nat.{div-one}
 use borrow.Author.Needs.{needs}
 use Rattle.registers.proofs.read_low.Statement.{statement}

@@ -1,4 +1,3 @@
--- `session::platform_line_reads` meets its contract: what its calls and tests say, put together, is the definition. Assumes nothing.
 use Rattle.session.specs.Session.{platformLineReads}
 use borrow.Author.Needs.{needs}
 use Rattle.session.proofs.platform_line_reads.Statement.{statement}

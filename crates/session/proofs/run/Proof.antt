@@ -1,4 +1,3 @@
--- `session::run` meets its contract: what its calls and tests say, put together, is the definition. Assumes nothing.
 use Rattle.session.proofs.Laws.{line-unread, all-read}
 use borrow.Author.Needs.{needs}
 use Rattle.session.proofs.run.Statement.{statement}

@@ -1,4 +1,3 @@
--- `session::session` meets its contract: what its calls and tests say, put together, is the definition. Assumes nothing.
 use mathlib.Core.Path.{sym, _∙_}
 use Rattle.session.proofs.Laws.{platform-unread, set-up-refused, set-up-done}
 use borrow.Author.Needs.{needs}

@@ -1,4 +1,3 @@
--- `session::settled` meets its contract: what its calls and tests say, put together, is the definition. Assumes nothing.
 use borrow.Author.Needs.{needs}
 use Rattle.session.proofs.settled.Statement.{statement}
 use Rattle.session.proofs.settled.Tie as tie

@@ -1,4 +1,3 @@
--- `session::step_in` meets its contract: what its calls and tests say, put together, is the definition. Assumes nothing.
 use Rattle.session.specs.Session.{stepIn}
 use borrow.Author.Needs.{needs}
 use Rattle.session.proofs.step_in.Statement.{statement}

@@ -1,4 +1,3 @@
--- `session::step_reads` meets its contract: what its calls and tests say, put together, is the definition. Assumes nothing.
 use Rattle.session.specs.Session.{stepReads}
 use borrow.Author.Needs.{needs}
 use Rattle.session.proofs.Laws.{step-read}

@@ -1,4 +1,3 @@
--- `session::stepped_at` meets its contract: what its calls and tests say, put together, is the definition. Assumes nothing.
 use borrow.Author.Needs.{needs}
 use Rattle.session.proofs.stepped_at.Statement.{statement}
 use Rattle.session.proofs.stepped_at.Tie as tie

@@ -1,4 +1,3 @@
--- `session::write_listing` meets its contract: what its calls and tests say, put together, is the definition. Assumes nothing.
 use mathlib.Core.Logic.{inl, inr}
 use lib.ListN.{drop}
 use Rattle.text.specs.Parts.{linesOf}

@@ -1,4 +1,3 @@
--- `sleep::absent` meets its contract: the code is the definition. Assumes nothing.
 use borrow.Author.Needs.{needs}
 use Rattle.sleep.specs.Pairs.{absent}
 use Rattle.sleep.proofs.absent.Statement.{statement}

@@ -1,4 +1,3 @@
--- `sleep::same_pair` meets its contract: the code is the definition. Assumes nothing.
 use borrow.Author.Needs.{needs}
 use Rattle.sleep.specs.Pairs.{samePair}
 use Rattle.sleep.proofs.same_pair.Statement.{statement}

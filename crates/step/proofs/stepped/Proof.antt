@@ -1,4 +1,3 @@
--- `step::stepped` meets its contract: what its calls and tests say, put together, is the definition. Assumes nothing.
 use borrow.Author.Needs.{needs}
 use Rattle.step.proofs.stepped.Statement.{statement}
 use Rattle.step.proofs.stepped.Tie as tie

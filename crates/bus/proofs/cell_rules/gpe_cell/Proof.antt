@@ -1,4 +1,3 @@
--- `bus::cell_rules::gpe_cell` meets its contract: what its calls and tests say, put together, is the definition. Assumes nothing.
 use Rattle.bus.specs.Cells.{gpeCell}
 use borrow.Author.Needs.{needs}
 use Rattle.bus.proofs.cell_rules.gpe_cell.Statement.{statement}

@@ -1,4 +1,3 @@
--- `events::buttons::fits` meets its contract: what its calls and tests say, put together, is the definition. Assumes nothing.
 use borrow.Author.Needs.{needs}
 use Rattle.events.proofs.buttons.fits.Statement.{statement}
 use Rattle.events.proofs.buttons.fits.Tie as tie

@@ -1,4 +1,3 @@
--- `events::buttons::in_s5` meets its contract: what its calls and tests say, put together, is the definition. Assumes nothing.
 use mathlib.Core.Path.{refl}
 use Rattle.model.specs.Events.{inS5}
 use Rattle.events.proofs.buttons.in_s5.Statement.{statement}

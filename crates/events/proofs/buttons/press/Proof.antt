@@ -1,4 +1,3 @@
--- `events::buttons::press` meets its contract: what its calls and tests say, put together, is the definition. Assumes nothing.
 use Rattle.model.specs.Events.{pressOf}
 use borrow.Author.Needs.{needs}
 use Rattle.events.proofs.buttons.press.Statement.{statement}

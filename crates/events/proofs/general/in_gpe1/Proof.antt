@@ -1,4 +1,3 @@
--- `events::general::in_gpe1` meets its contract: what its calls and tests say, put together, is the definition. Assumes nothing.
 use Rattle.model.specs.Events.{inGpe1}
 use borrow.Author.Needs.{needs}
 use Rattle.events.proofs.general.in_gpe1.Statement.{statement}

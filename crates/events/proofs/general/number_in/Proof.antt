@@ -1,4 +1,3 @@
--- `events::general::number_in` meets its contract: what its calls and tests say, put together, is the definition. Assumes nothing.
 use mathlib.Core.Path.{sym, _∙_}
 use borrow.Author.Needs.{needs}
 use Rattle.events.proofs.general.number_in.Statement.{statement}

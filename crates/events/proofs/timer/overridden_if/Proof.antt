@@ -1,4 +1,3 @@
--- `events::timer::overridden_if` meets its contract: what its calls and tests say, put together, is the definition. Assumes nothing.
 use borrow.Author.Needs.{needs}
 use Rattle.events.proofs.timer.overridden_if.Statement.{statement}
 use Rattle.events.proofs.timer.overridden_if.Tie as tie

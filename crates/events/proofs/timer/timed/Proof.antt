@@ -1,4 +1,3 @@
--- `events::timer::timed` meets its contract: what its calls and tests say, put together, is the definition. Assumes nothing.
 use Rattle.model.specs.Events.{timed}
 use borrow.Author.Needs.{needs}
 use Rattle.events.proofs.timer.timed.Statement.{statement}

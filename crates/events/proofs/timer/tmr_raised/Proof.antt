@@ -1,4 +1,3 @@
--- `events::timer::tmr_raised` meets its contract: what its calls and tests say, put together, is the definition. Assumes nothing.
 use Rattle.model.specs.Events.{tmrRaised}
 use borrow.Author.Needs.{needs}
 use Rattle.events.proofs.timer.tmr_raised.Statement.{statement}

@@ -1,4 +1,3 @@
--- `machine::Machine::complete` meets its contract: what its calls and tests say, put together, is the definition. Assumes nothing.
 use Rattle.machine.specs.Sleep.{completed}
 use borrow.Author.Needs.{needs}
 use Rattle.machine.proofs.Machine.complete.Statement.{statement}

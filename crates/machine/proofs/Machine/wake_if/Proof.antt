@@ -1,4 +1,3 @@
--- `machine::Machine::wake_if` meets its contract: what its calls and tests say, put together, is the definition. Assumes nothing.
 use mathlib.Core.Path.{sym}
 use borrow.Author.Needs.{needs}
 use Rattle.machine.proofs.Machine.wake_if.Statement.{statement}

@@ -1,4 +1,3 @@
--- `machine::lines::awake` meets its contract: what its calls and tests say, put together, is the definition. Assumes nothing.
 use mathlib.Core.Path.{refl}
 use Rattle.machine.specs.Lines.{awake}
 use Rattle.machine.proofs.lines.awake.Statement.{statement}

@@ -1,4 +1,3 @@
--- `machine::lines::event_output` meets its contract: what its calls and tests say, put together, is the definition. Assumes nothing.
 use borrow.Author.Needs.{needs}
 use Rattle.machine.proofs.lines.event_output.Statement.{statement}
 use Rattle.machine.proofs.lines.event_output.Tie as tie

@@ -1,4 +1,3 @@
--- `machine::lines::gpe_event` meets its contract: what its calls and tests say, put together, is the definition. Assumes nothing.
 use borrow.Author.Needs.{needs}
 use Rattle.machine.proofs.lines.gpe_event.Statement.{statement}
 use Rattle.machine.proofs.lines.gpe_event.Tie as tie

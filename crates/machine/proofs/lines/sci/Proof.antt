@@ -1,4 +1,3 @@
--- `machine::lines::sci` meets its contract: what its calls and tests say, put together, is the definition. Assumes nothing.
 use Rattle.machine.specs.Lines.{sciOf}
 use borrow.Author.Needs.{needs}
 use Rattle.machine.proofs.lines.sci.Statement.{statement}

@@ -1,4 +1,3 @@
--- `machine::sleeping::is_sleeping` meets its contract: what its calls and tests say, put together, is the definition. Assumes nothing.
 use mathlib.Core.Path.{refl}
 use Rattle.machine.specs.Sleep.{isSleeping}
 use Rattle.machine.proofs.sleeping.is_sleeping.Statement.{statement}

@@ -1,4 +1,3 @@
--- `machine::sleeping::pending` meets its contract: what its calls and tests say, put together, is the definition. Assumes nothing.
 use Rattle.machine.specs.Sleep.{pending}
 use borrow.Author.Needs.{needs}
 use Rattle.machine.proofs.sleeping.pending.Statement.{statement}

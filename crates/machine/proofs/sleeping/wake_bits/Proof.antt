@@ -1,4 +1,3 @@
--- `machine::sleeping::wake_bits` meets its contract: what its calls and tests say, put together, is the definition. Assumes nothing.
 use Rattle.machine.specs.Sleep.{wakeBits}
 use borrow.Author.Needs.{needs}
 use Rattle.machine.proofs.sleeping.wake_bits.Statement.{statement}

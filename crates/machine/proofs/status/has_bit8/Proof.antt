@@ -1,4 +1,3 @@
--- `machine::status::has_bit8` meets its contract: what its calls and tests say, put together, is the definition. Assumes nothing.
 use mathlib.Core.Path.{refl}
 use Rattle.machine.specs.Cells.{hasBit}
 use Rattle.machine.proofs.status.has_bit8.Statement.{statement}

@@ -1,4 +1,3 @@
--- `platform::block::holds_port` meets its contract: what its calls and tests say, put together, is the definition. Assumes nothing.
 use Rattle.platform.specs.Blocks.{holds}
 use borrow.Author.Needs.{needs}
 use Rattle.platform.proofs.block.holds_port.Statement.{statement}

@@ -1,4 +1,3 @@
--- `platform::block::is_present` meets its contract: what its calls and tests say, put together, is the definition. Assumes nothing.
 use mathlib.Core.Path.{refl}
 use Rattle.platform.specs.Blocks.{present}
 use Rattle.platform.proofs.block.is_present.Statement.{statement}

@@ -1,4 +1,3 @@
--- `platform::block::passes_ports` meets its contract: what its calls and tests say, put together, is the definition. Assumes nothing.
 use Rattle.platform.proofs.Ports.{sum-passes}
 use Rattle.platform.specs.Blocks.{portLimit, passesPorts}
 use borrow.Author.Needs.{needs}

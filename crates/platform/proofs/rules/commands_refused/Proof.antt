@@ -1,4 +1,3 @@
--- `platform::rules::commands_refused` meets its contract: what its calls and tests say, put together, is the definition. Assumes nothing.
 use mathlib.Core.Path.{refl}
 use Rattle.platform.specs.Rules.{commandsRefused}
 use Rattle.platform.proofs.rules.commands_refused.Statement.{statement}

@@ -1,4 +1,3 @@
--- `platform::rules::hardware_reduced` meets its contract: what its calls and tests say, put together, is the definition. Assumes nothing.
 use Rattle.platform.specs.Rules.{hardwareReduced}
 use borrow.Author.Needs.{needs}
 use Rattle.platform.proofs.rules.hardware_reduced.Statement.{statement}

@@ -1,4 +1,3 @@
--- `platform::rules::homes_refused` meets its contract: what its calls and tests say, put together, is the definition. Assumes nothing.
 use Rattle.cells.proofs.Masks.{known-bits}
 use Rattle.platform.specs.Rules.{homesRefused}
 use borrow.Author.Needs.{needs}

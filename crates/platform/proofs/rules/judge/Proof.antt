@@ -1,4 +1,3 @@
--- `platform::rules::judge` meets its contract: what its calls and tests say, put together, is the definition. Assumes nothing.
 use mathlib.Core.Path.{sym, _∙_}
 use Rattle.platform.specs.Answer.{firstFailing}
 use borrow.Author.Needs.{needs}

@@ -1,4 +1,3 @@
--- `platform::rules::just_one_zero` meets its contract: what its calls and tests say, put together, is the definition. Assumes nothing.
 use mathlib.Core.Path.{refl}
 use Rattle.platform.specs.Rules.{justOneZero}
 use Rattle.platform.proofs.rules.just_one_zero.Statement.{statement}

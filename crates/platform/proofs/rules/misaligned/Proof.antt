@@ -1,4 +1,3 @@
--- `platform::rules::misaligned` meets its contract: what its calls and tests say, put together, is the definition. Assumes nothing.
 use Rattle.platform.specs.Rules.{misaligned}
 use mathlib.Core.Path.{refl}
 use borrow.Author.Needs.{needs}

@@ -1,4 +1,3 @@
--- `platform::rules::numbers_refused` meets its contract: what its calls and tests say, put together, is the definition. Assumes nothing.
 use borrow.Author.Needs.{needs}
 use Rattle.platform.proofs.rules.numbers_refused.Statement.{statement}
 use Rattle.platform.proofs.rules.numbers_refused.Tie as tie

@@ -1,4 +1,3 @@
--- `ports::map::walk` meets its contract: what its calls and tests say, put together, is the definition. Assumes nothing.
 use borrow.Author.Needs.{needs}
 use Rattle.ports.proofs.map.walk.Statement.{statement}
 use Rattle.ports.proofs.map.walk.Tie as tie

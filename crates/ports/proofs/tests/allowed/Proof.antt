@@ -1,4 +1,3 @@
--- `ports::tests::allowed` meets its contract: each arm gives what the definition says of its variant. Assumes nothing.
 use Rattle.model.specs.Bus.{allowed}
 use borrow.Author.Needs.{needs}
 use Rattle.ports.proofs.tests.allowed.Statement.{statement}

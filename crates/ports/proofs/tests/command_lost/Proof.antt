@@ -1,4 +1,3 @@
--- `ports::tests::command_lost` meets its contract: each arm gives what the definition says of its variant. Assumes nothing.
 use Rattle.model.specs.Bus.{commandLost}
 use borrow.Author.Needs.{needs}
 use Rattle.ports.proofs.tests.command_lost.Statement.{statement}

@@ -1,4 +1,3 @@
--- `ports::tests::data_too_wide` meets its contract: what its calls and tests say, put together, is the definition. Assumes nothing.
 use Rattle.model.specs.Bus.{dataTooWide}
 use borrow.Author.Needs.{needs}
 use Rattle.ports.proofs.tests.data_too_wide.Statement.{statement}

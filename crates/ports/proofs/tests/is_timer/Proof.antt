@@ -1,4 +1,3 @@
--- `ports::tests::is_timer` meets its contract: each arm gives what the definition says of its variant. Assumes nothing.
 use Rattle.model.specs.Bus.{isTimer}
 use borrow.Author.Needs.{needs}
 use Rattle.ports.proofs.tests.is_timer.Statement.{statement}

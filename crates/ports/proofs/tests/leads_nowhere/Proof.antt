@@ -1,4 +1,3 @@
--- `ports::tests::leads_nowhere` meets its contract: each arm gives what the definition says of its variant. Assumes nothing.
 use Rattle.model.specs.Bus.{leadsNowhere}
 use borrow.Author.Needs.{needs}
 use Rattle.ports.proofs.tests.leads_nowhere.Statement.{statement}

@@ -1,4 +1,3 @@
--- `ports::tests::wrong_width` meets its contract: what its calls and tests say, put together, is the definition. Assumes nothing.
 use mathlib.Core.Path.{refl}
 use Rattle.model.specs.Bus.{wrongWidth}
 use Rattle.ports.proofs.tests.wrong_width.Statement.{statement}

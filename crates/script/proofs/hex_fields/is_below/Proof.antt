@@ -1,4 +1,3 @@
--- `script::hex_fields::is_below` meets its contract: what its calls and tests say, put together, is the definition. Assumes nothing.
 use mathlib.Core.Path.{sym, _∙_}
 use Rattle.script.specs.Fields.{isBelow}
 use borrow.Author.Needs.{needs}

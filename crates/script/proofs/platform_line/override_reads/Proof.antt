@@ -1,4 +1,3 @@
--- `script::platform_line::override_reads` meets its contract: its two tests are the definition's. Assumes nothing.
 use Rattle.script.specs.PlatformLine.{overrideReads}
 use borrow.Author.Needs.{needs}
 use Rattle.script.proofs.platform_line.override_reads.Statement.{statement}

@@ -1,4 +1,3 @@
--- `script::platform_line::platform_reads` meets its contract: its tests are the definition's, in the same order. Assumes nothing.
 use Rattle.script.specs.PlatformLine.{platformReads}
 use borrow.Author.Needs.{needs}
 use Rattle.script.proofs.platform_line.platform_reads.Statement.{statement}

@@ -1,4 +1,3 @@
--- `script::step_line::access_reads` meets its contract: its two tests are the definition's. Assumes nothing.
 use Rattle.script.specs.StepLine.{accessReads}
 use borrow.Author.Needs.{needs}
 use Rattle.script.proofs.step_line.access_reads.Statement.{statement}

@@ -1,4 +1,3 @@
--- `script::step_line::lone_line` meets its contract: what its calls and tests say, put together, is the definition. Assumes nothing.
 use mathlib.Core.Path.{sym, _∙_}
 use Rattle.script.specs.StepLine.{loneLine}
 use borrow.Author.Needs.{needs}

@@ -1,4 +1,3 @@
--- `text::numbers::digit_of` meets its contract: its tests are the definition's, in the same order. Assumes nothing.
 use borrow.Author.Tests.{lt-ltb, le-ltb}
 use borrow.Author.Needs.{needs}
 use Rattle.text.specs.Numbers.{digitOf}

@@ -1,4 +1,3 @@
--- `text::numbers::is_number` meets its contract: its tests are the definition's, in the same order. Assumes nothing.
 use mathlib.Core.Path.{ap}
 use Prim.Native.Nat.{ℕ}
 use native.Mathlib.Omega.{arith}

@@ -1,4 +1,3 @@
--- `text::parts::next_line` meets its contract: its test is the definition's. Assumes nothing.
 use borrow.Author.Tests.{lt-ltb, le-ltb}
 use borrow.Author.Needs.{needs}
 use Rattle.text.specs.Parts.{nextLine}

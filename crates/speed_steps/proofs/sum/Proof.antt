@@ -1,0 +1,30 @@
+use Rattle.speed_steps.specs.Rows.{sumOf}
+use borrow.Author.Needs.{needs}
+use Rattle.speed_steps.proofs.sum.Statement.{statement}
+use Rattle.speed_steps.proofs.sum.Tie as tie
+
+cast-wrapping-add-u64 : tie.Need-cast-wrapping-add-u64
+cast-wrapping-add-u64 c = search needs
+
+wrapping-add-u64-requires : tie.Need-wrapping-add-u64-requires
+wrapping-add-u64-requires c κs = search needs
+
+cast-wrapping-add-u64-2 : tie.Need-cast-wrapping-add-u64-2
+cast-wrapping-add-u64-2 c = search needs
+
+wrapping-add-u64-requires-2 : tie.Need-wrapping-add-u64-requires-2
+wrapping-add-u64-requires-2 c κs = search needs
+
+returns : tie.Need-returns
+unfolding sumOf
+returns c = simp (c .wrapping-add-u642 .ensures, c .before .before .wrapping-add-u64 .ensures)
+
+pub sum-spec : {M : Type 1} → statement M
+sum-spec =
+    tie.close
+    (tie.spec
+    cast-wrapping-add-u64
+    wrapping-add-u64-requires
+    cast-wrapping-add-u64-2
+    wrapping-add-u64-requires-2
+    returns)
