@@ -4,6 +4,8 @@ use mathlib.Core.Bool.{Bool, true, false, not, cond, _&&_}
 use mathlib.Core.List.{List, [], _∷_}
 use lib.Dec.{eqb, ltb}
 use lib.Bits.{bitOr}
+use Rattle.acpi.specs.Bits.{«TMR_STS», «BM_STS», «GBL_STS», «PWRBTN_STS», «SLPBTN_STS», «RTC_STS», «PCIEXP_WAKE_STS», «WAK_STS»}
+use Rattle.acpi.specs.Fadt.{«PWR_BUTTON», «SLP_BUTTON», «FIX_RTC», «PCI_EXP_WAK»}
 use Rattle.cells.specs.declared.Status.{Status}
 use Rattle.cells.specs.declared.Status.the-variants as status
 use Rattle.cells.specs.declared.Enable.{Enable}
@@ -21,14 +23,14 @@ row bit status enable fitted = record { bit = bit; status = status; enable = ena
 -- the table "Bit, Status, Enable, Fitted"
 abbrev pub cells : List Cell
 cells =
-    row 0 status.Tmr enable.Yes fitted.TimerPresent ∷
-    row 4 status.Bm enable.No fitted.Always ∷
-    row 5 status.Gbl enable.Yes fitted.Always ∷
-    row 8 status.Pwrbtn enable.Yes (fitted.FlagClear 4) ∷
-    row 9 status.Slpbtn enable.Yes (fitted.FlagClear 5) ∷
-    row 10 status.Rtc enable.Yes (fitted.FlagClear 6) ∷
-    row 14 status.PciexpWake enable.Disable (fitted.FlagSet 14) ∷
-    row 15 status.Wak enable.No fitted.Always ∷
+    row «TMR_STS» status.Tmr enable.Yes fitted.TimerPresent ∷
+    row «BM_STS» status.Bm enable.No fitted.Always ∷
+    row «GBL_STS» status.Gbl enable.Yes fitted.Always ∷
+    row «PWRBTN_STS» status.Pwrbtn enable.Yes (fitted.FlagClear «PWR_BUTTON») ∷
+    row «SLPBTN_STS» status.Slpbtn enable.Yes (fitted.FlagClear «SLP_BUTTON») ∷
+    row «RTC_STS» status.Rtc enable.Yes (fitted.FlagClear «FIX_RTC») ∷
+    row «PCIEXP_WAKE_STS» status.PciexpWake enable.Disable (fitted.FlagSet «PCI_EXP_WAK») ∷
+    row «WAK_STS» status.Wak enable.No fitted.Always ∷
     []
 
 -- flag n of the FADT's flags

@@ -1,4 +1,16 @@
 // The PM1 event cells: one constant table, and the masks computed from it.
+use acpi::BM_STS;
+use acpi::FIX_RTC;
+use acpi::GBL_STS;
+use acpi::PCI_EXP_WAK;
+use acpi::PCIEXP_WAKE_STS;
+use acpi::PWR_BUTTON;
+use acpi::PWRBTN_STS;
+use acpi::RTC_STS;
+use acpi::SLP_BUTTON;
+use acpi::SLPBTN_STS;
+use acpi::TMR_STS;
+use acpi::WAK_STS;
 use bits::pick16;
 ghost use mathlib.Core.Path.{_≡_};
 ghost use Rattle.cells.specs.Cells.{flagOf, bitAt, isFitted, hasEnable, isEvent, isIn, cellBit, maskOf, cells};
@@ -36,49 +48,49 @@ pub struct Cell {
 
 const CELLS: [Cell; 8] = [
     Cell {
-        bit: 0,
+        bit: TMR_STS,
         status: Status::Tmr,
         enable: Enable::Yes,
         fitted: Fitted::TimerPresent,
     },
     Cell {
-        bit: 4,
+        bit: BM_STS,
         status: Status::Bm,
         enable: Enable::No,
         fitted: Fitted::Always,
     },
     Cell {
-        bit: 5,
+        bit: GBL_STS,
         status: Status::Gbl,
         enable: Enable::Yes,
         fitted: Fitted::Always,
     },
     Cell {
-        bit: 8,
+        bit: PWRBTN_STS,
         status: Status::Pwrbtn,
         enable: Enable::Yes,
-        fitted: Fitted::FlagClear(4),
+        fitted: Fitted::FlagClear(PWR_BUTTON),
     },
     Cell {
-        bit: 9,
+        bit: SLPBTN_STS,
         status: Status::Slpbtn,
         enable: Enable::Yes,
-        fitted: Fitted::FlagClear(5),
+        fitted: Fitted::FlagClear(SLP_BUTTON),
     },
     Cell {
-        bit: 10,
+        bit: RTC_STS,
         status: Status::Rtc,
         enable: Enable::Yes,
-        fitted: Fitted::FlagClear(6),
+        fitted: Fitted::FlagClear(FIX_RTC),
     },
     Cell {
-        bit: 14,
+        bit: PCIEXP_WAKE_STS,
         status: Status::PciexpWake,
         enable: Enable::Disable,
-        fitted: Fitted::FlagSet(14),
+        fitted: Fitted::FlagSet(PCI_EXP_WAK),
     },
     Cell {
-        bit: 15,
+        bit: WAK_STS,
         status: Status::Wak,
         enable: Enable::No,
         fitted: Fitted::Always,

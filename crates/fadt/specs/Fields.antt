@@ -4,6 +4,7 @@ use mathlib.Core.List.{List}
 use Prim.Native.Nat.{ℕ, _+_, _*_}
 use lib.Dec.{eqb}
 use lib.ListN.{getD}
+use Rattle.acpi.specs.Fadt.{«SMI_CMD», «ACPI_ENABLE», «ACPI_DISABLE», «PM1a_EVT_BLK», «PM1b_EVT_BLK», «PM1a_CNT_BLK», «PM1b_CNT_BLK», «PM2_CNT_BLK», «PM_TMR_BLK», «GPE0_BLK», «GPE1_BLK», «PM1_EVT_LEN», «PM1_CNT_LEN», «PM2_CNT_LEN», «PM_TMR_LEN», «GPE0_BLK_LEN», «GPE1_BLK_LEN», «GPE1_BASE», «FLAGS»}
 use Rattle.sleep.specs.Pairs.{sleepTable}
 use Rattle.platform.specs.Blocks.{block}
 use Rattle.platform.specs.declared.block.Block.{Block}
@@ -29,19 +30,19 @@ pm1Block t address length = block (dword t address) (cond (not (eqb (dword t add
 abbrev pub settingsOf : List ℕ → ℕ → ℕ → Bool → List (List ℕ) → Settings
 settingsOf t event-homes control-homes power-override pairs =
     record {
-      «smi_cmd» = dword t 48;
-      «acpi_enable» = byte t 52;
-      «acpi_disable» = byte t 53;
-      «pm1a_evt» = pm1Block t 56 88;
-      «pm1b_evt» = pm1Block t 60 88;
-      «pm1a_cnt» = pm1Block t 64 89;
-      «pm1b_cnt» = pm1Block t 68 89;
-      «pm2_cnt» = blockOf t 72 90;
-      «pm_tmr» = blockOf t 76 91;
-      gpe0 = blockOf t 80 92;
-      gpe1 = blockOf t 84 93;
-      «gpe1_base» = byte t 94;
-      flags = dword t 112;
+      «smi_cmd» = dword t «SMI_CMD»;
+      «acpi_enable» = byte t «ACPI_ENABLE»;
+      «acpi_disable» = byte t «ACPI_DISABLE»;
+      «pm1a_evt» = pm1Block t «PM1a_EVT_BLK» «PM1_EVT_LEN»;
+      «pm1b_evt» = pm1Block t «PM1b_EVT_BLK» «PM1_EVT_LEN»;
+      «pm1a_cnt» = pm1Block t «PM1a_CNT_BLK» «PM1_CNT_LEN»;
+      «pm1b_cnt» = pm1Block t «PM1b_CNT_BLK» «PM1_CNT_LEN»;
+      «pm2_cnt» = blockOf t «PM2_CNT_BLK» «PM2_CNT_LEN»;
+      «pm_tmr» = blockOf t «PM_TMR_BLK» «PM_TMR_LEN»;
+      gpe0 = blockOf t «GPE0_BLK» «GPE0_BLK_LEN»;
+      gpe1 = blockOf t «GPE1_BLK» «GPE1_BLK_LEN»;
+      «gpe1_base» = byte t «GPE1_BASE»;
+      flags = dword t «FLAGS»;
       «event_homes» = event-homes;
       «control_homes» = control-homes;
       «power_override» = power-override;

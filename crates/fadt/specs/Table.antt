@@ -4,6 +4,7 @@ use mathlib.Core.List.{List, [], _∷_}
 use Prim.Native.Nat.{ℕ, suc, _+_, _%_}
 use lib.Dec.{eqb, ltb}
 use lib.ListN.{length, take}
+use Rattle.acpi.specs.Fadt.{«LENGTH»}
 use Rattle.platform.specs.Answer.{Rule, _when_}
 use Rattle.platform.specs.Rules.{settingsRules}
 use Rattle.platform.specs.declared.settings.Settings.{Settings}
@@ -29,7 +30,7 @@ noSignature t = not (standsAt 0 signature t)
 
 -- "length 4"
 abbrev pub tableLength : List ℕ → ℕ
-tableLength t = dword t 4
+tableLength t = dword t «LENGTH»
 
 -- 3: "the length field is below 116 or above the bytes lent"
 unfoldable pub wrongTableLength : List ℕ → Bool

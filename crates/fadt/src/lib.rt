@@ -1,4 +1,24 @@
 // The FADT's bytes: rules 1 to 4 of setting up, and the settings read from them.
+use acpi::ACPI_DISABLE;
+use acpi::ACPI_ENABLE;
+use acpi::FLAGS;
+use acpi::GPE0_BLK;
+use acpi::GPE0_BLK_LEN;
+use acpi::GPE1_BASE;
+use acpi::GPE1_BLK;
+use acpi::GPE1_BLK_LEN;
+use acpi::LENGTH;
+use acpi::PM_TMR_BLK;
+use acpi::PM_TMR_LEN;
+use acpi::PM1_CNT_LEN;
+use acpi::PM1_EVT_LEN;
+use acpi::PM1a_CNT_BLK;
+use acpi::PM1a_EVT_BLK;
+use acpi::PM1b_CNT_BLK;
+use acpi::PM1b_EVT_BLK;
+use acpi::PM2_CNT_BLK;
+use acpi::PM2_CNT_LEN;
+use acpi::SMI_CMD;
 use platform::Block;
 use platform::SetUpAnswer;
 use platform::SetUpRefusal;
@@ -51,19 +71,19 @@ pub fn settings(
 ) -> Settings
     ensures { λ r. ⌜ r ≡ settingsOf (now (table .entry)) «event_homes» «control_homes» «power_override» pairs ⌝ }
 {
-    let smi_cmd = dword_at(table, 48) as u64;
-    let acpi_enable = byte(table, 52);
-    let acpi_disable = byte(table, 53);
-    let pm1a_evt = pm1_block(table, 56, 88);
-    let pm1b_evt = pm1_block(table, 60, 88);
-    let pm1a_cnt = pm1_block(table, 64, 89);
-    let pm1b_cnt = pm1_block(table, 68, 89);
-    let pm2_cnt = block(table, 72, 90);
-    let pm_tmr = block(table, 76, 91);
-    let gpe0 = block(table, 80, 92);
-    let gpe1 = block(table, 84, 93);
-    let gpe1_base = byte(table, 94);
-    let flags = dword_at(table, 112);
+    let smi_cmd = dword_at(table, SMI_CMD) as u64;
+    let acpi_enable = byte(table, ACPI_ENABLE);
+    let acpi_disable = byte(table, ACPI_DISABLE);
+    let pm1a_evt = pm1_block(table, PM1a_EVT_BLK, PM1_EVT_LEN);
+    let pm1b_evt = pm1_block(table, PM1b_EVT_BLK, PM1_EVT_LEN);
+    let pm1a_cnt = pm1_block(table, PM1a_CNT_BLK, PM1_CNT_LEN);
+    let pm1b_cnt = pm1_block(table, PM1b_CNT_BLK, PM1_CNT_LEN);
+    let pm2_cnt = block(table, PM2_CNT_BLK, PM2_CNT_LEN);
+    let pm_tmr = block(table, PM_TMR_BLK, PM_TMR_LEN);
+    let gpe0 = block(table, GPE0_BLK, GPE0_BLK_LEN);
+    let gpe1 = block(table, GPE1_BLK, GPE1_BLK_LEN);
+    let gpe1_base = byte(table, GPE1_BASE);
+    let flags = dword_at(table, FLAGS);
     let sleep = SleepTable::new(pairs);
     Settings {
         smi_cmd,
@@ -135,7 +155,7 @@ fn no_signature(table: &[u8]) -> bool
 fn wrong_length(table: &[u8]) -> bool
     ensures { λ r. ⌜ r ≡ wrongTableLength (now (table .entry)) ⌝ }
 {
-    let n = dword_at(table, 4) as usize;
+    let n = dword_at(table, LENGTH) as usize;
     (n < 116) | (table.len() < n)
 }
 
@@ -166,7 +186,7 @@ fn sum_of(table: &[u8], n: usize) -> u8
 fn wrong_sum(table: &[u8]) -> bool
     ensures { λ r. ⌜ r ≡ wrongSum (now (table .entry)) ⌝ }
 {
-    let n = dword_at(table, 4) as usize;
+    let n = dword_at(table, LENGTH) as usize;
     sum_of(table, n) != 0
 }
 

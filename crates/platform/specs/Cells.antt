@@ -1,6 +1,7 @@
 -- What a platform's settings fit: its event cells and its timer.
 use mathlib.Core.Bool.{Bool}
 use Prim.Native.Nat.{ℕ}
+use Rattle.acpi.specs.Fadt.{«TMR_VAL_EXT»}
 use Rattle.cells.specs.Cells.{flagOf, maskOf, cells}
 use Rattle.cells.specs.declared.Column.the-variants as column
 use Rattle.platform.specs.Blocks.{present}
@@ -16,4 +17,4 @@ enableCells s = maskOf column.Enable (s .flags) (present (s .«pm_tmr»)) cells
 
 -- "32 bits if flag 8 is set, else 24"
 abbrev pub wideTimer : Settings → Bool
-wideTimer s = flagOf (s .flags) 8
+wideTimer s = flagOf (s .flags) «TMR_VAL_EXT»

@@ -7,6 +7,7 @@ use lib.Bits.{bitAnd}
 use lib.Dec.{eqb}
 use lib.ListN.{length, getD}
 use Rattle.lists.specs.Any.{any, anyOf}
+use Rattle.acpi.specs.Fadt.{«HW_REDUCED_ACPI»}
 use Rattle.cells.specs.Cells.{flagOf}
 use Rattle.sleep.specs.Pairs.{outOfRange, shared}
 use Rattle.platform.specs.Blocks.{present, holds, portLimit, noBlock}
@@ -43,7 +44,7 @@ blockAt s i = getD (blocksOf s) i noBlock
 
 -- what the test means, and so what every accepted set-up gives
 pub record Guaranteed (s : Settings) : Type 0 where
-  pub full-hardware : flagOf (s .flags) 20 ≡ false
+  pub full-hardware : flagOf (s .flags) «HW_REDUCED_ACPI» ≡ false
   pub evt-a-length : HasLength 4 (s .«pm1a_evt»)
   pub evt-b-length : HasLength 4 (s .«pm1b_evt»)
   pub cnt-a-length : HasLength 2 (s .«pm1a_cnt»)

@@ -4,6 +4,7 @@ use mathlib.Core.List.{List, [], _∷_}
 use Prim.Native.Nat.{ℕ, _+_, _*_, _%_}
 use lib.Dec.{eqb, ltb, leb}
 use Rattle.lists.specs.Any.{any, anyTwo, anyOf}
+use Rattle.acpi.specs.Fadt.{«HW_REDUCED_ACPI»}
 use Rattle.bits.specs.Cell.{within}
 use Rattle.cells.specs.Cells.{flagOf}
 use Rattle.sleep.specs.Pairs.{sleepRefused}
@@ -28,7 +29,7 @@ blocksOf s =
 
 -- 5: "flag bit 20 (hardware-reduced) is set"
 unfoldable pub hardwareReduced : Settings → Bool
-hardwareReduced s = flagOf (s .flags) 20
+hardwareReduced s = flagOf (s .flags) «HW_REDUCED_ACPI»
 
 -- "House limits": a present block has another length than the one allowed
 unfoldable pub wrongBlockLength : ℕ → Block → Bool

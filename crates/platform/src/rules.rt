@@ -4,6 +4,7 @@ use crate::block::is_present;
 use crate::block::overlaps;
 use crate::block::passes_ports;
 use crate::settings::Settings;
+use acpi::HW_REDUCED_ACPI;
 use cells::Column;
 ghost use mathlib.Core.Bool.{_||_};
 ghost use mathlib.Core.Path.{_≡_};
@@ -166,7 +167,7 @@ pub fn blocks(s: Settings) -> [Block; BLOCKS]
 fn hardware_reduced(s: Settings) -> bool
     ensures { λ r. ⌜ r ≡ hardwareReduced s ⌝ }
 {
-    cells::flag(s.flags, 20)
+    cells::flag(s.flags, HW_REDUCED_ACPI)
 }
 
 fn wrong_length(n: u8, b: Block) -> bool

@@ -1,6 +1,7 @@
 // What setting up keeps of the table and of what the host gives.
 use crate::block::Block;
 use crate::block::is_present;
+use acpi::TMR_VAL_EXT;
 use cells::Column;
 use sleep::SleepTable;
 ghost use mathlib.Core.Path.{_≡_};
@@ -50,5 +51,5 @@ pub fn enable_cells(s: Settings) -> u16
 pub fn wide_timer(s: Settings) -> bool
     ensures { λ r. ⌜ r ≡ wideTimer s ⌝ }
 {
-    cells::flag(s.flags, 8)
+    cells::flag(s.flags, TMR_VAL_EXT)
 }
