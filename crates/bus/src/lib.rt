@@ -8,8 +8,10 @@ use machine::Machine;
 use machine::awake;
 use model::Access;
 use model::Answer;
+use model::Place;
 use model::Register;
 use model::Stepped;
+use model::Transfer;
 use ports::allowed;
 use ports::command_lost;
 use ports::data_too_wide;
@@ -21,7 +23,8 @@ ghost use mathlib.Core.Path.{_≡_};
 ghost use Prim.Native.Nat.{_%_, _^_};
 ghost use Rattle.model.specs.Answer.{firstApplying};
 ghost use Rattle.model.specs.Bus.{readOf};
-ghost use Rattle.model.specs.Step.{readLines, writeLines, stepOf};
+ghost use Rattle.model.specs.Ports.{walk};
+ghost use Rattle.model.specs.Step.{readLines, writeLines, busStep, stepOf};
 ghost use Rattle.model.specs.declared.Answer.the-variants as answer;
 ghost use Rattle.model.specs.declared.Step.the-variants as step;
 
@@ -47,16 +50,12 @@ fn read_answer(m: Machine, r: Register, width: u32, offset: u64) -> Answer
 }
 
 // A read changes nothing.
-pub fn read(m: Machine, access: Access) -> Stepped
+fn read(m: Machine, access: Access, place: Place) -> Stepped
+    requires { ⌜ place ≡ walk (m .settings) (access .port) ⌝ }
     ensures { λ r. ⌜ r ≡ stepOf m (step.Read access) ⌝ }
 {
-    let s = m.settings;
-    let port = access.port;
-    let width = access.width;
-    let place = walk(s, port);
     let r = place.register;
-    let offset = place.offset;
-    let answer = read_answer(m, r, width, offset);
+    let answer = read_answer(m, r, access.width, place.offset);
     Stepped { answer, machine: m }
 }
 
@@ -102,13 +101,11 @@ fn write_answer(m: Machine, r: Register, width: u32, offset: u64, written: u64) 
 }
 
 // An accepted write does what its register's rule says; a refused one changes nothing.
-pub fn write(m: Machine, access: Access, written: u64) -> Stepped
+fn write(m: Machine, access: Access, place: Place, written: u64) -> Stepped
+    requires { ⌜ place ≡ walk (m .settings) (access .port) ⌝ }
     ensures { λ r. ⌜ r ≡ stepOf m (step.Write access written) ⌝ }
 {
-    let s = m.settings;
-    let port = access.port;
     let width = access.width;
-    let place = walk(s, port);
     let r = place.register;
     let offset = place.offset;
     let answer = write_answer(m, r, width, offset, written);
@@ -117,5 +114,19 @@ pub fn write(m: Machine, access: Access, written: u64) -> Stepped
         Stepped { answer, machine }
     } else {
         Stepped { answer, machine: m }
+    }
+}
+
+// A bus access: one walk finds where its port leads, for a read as for a write.
+pub fn access(m: Machine, t: Transfer) -> Stepped
+    ensures { λ r. ⌜ r ≡ stepOf m (busStep t) ⌝ }
+{
+    let s = m.settings;
+    let access = t.access;
+    let place = walk(s, access.port);
+    if t.writes {
+        write(m, access, place, t.written)
+    } else {
+        read(m, access, place)
     }
 }

@@ -28,7 +28,7 @@ use Rattle.machine.specs.declared.sleeping.WakeSource.the-variants as source
 use Rattle.model.specs.Answer.{firstApplying}
 use Rattle.model.specs.Bus.{completes, namedState, controlled, controlWritten, gpeWritten, writeOf}
 use Rattle.machine.specs.Cells.{tmrBit, pwrbtnBit, wakBit, hasBit, laneAt, oneByte, placed, covered, clearable, inStatus, onesIn, statusAfter, gpeSts, inGpeStatus, gpeStsAfter}
-use Rattle.model.specs.Events.{StatusBit, pm1, gpe, eventBit, pm1Mask, sourceOf, eventMask, eventSource, fits, raised, inS5, pressOf, signalWakes, signalOf, pcieWakes, pcieWakeOf, inGpe0, inGpe1, numberIn, withBit, generalRaised, generalEnabled, generalOf, clockAfter, tmrRaised, timed, ticksOf, eventOf}
+use Rattle.model.specs.Events.{StatusBit, pm1, gpe, eventBit, pm1Mask, sourceOf, eventMask, eventSource, fits, raised, inS5, pressOf, signalWakes, signalOf, pcieWakes, pcieWakeOf, inGpe0, inGpe1, withBit, generalRaised, generalEnabled, generalOf, clockAfter, tmrRaised, timed, ticksOf, eventOf}
 use Rattle.machine.specs.Fields.{withTime, enter}
 use Rattle.machine.specs.Lines.{awake}
 use Rattle.model.specs.Raises.{Change, unchanged, clearing, raising, bitsIf, wakIf, pressChange, signalChange, pcieWakeChange, ticksChange, eventChange, wakesAtOnce, writeChange, ruleChange, ifAccepted, raises, clears, liesIn, gpeMask, isPress, gpeEventChange, gpeOnes, gpeRuleChange, gpeRaises, gpeClears}

@@ -19,12 +19,17 @@ use Rattle.model.specs.declared.Register.{Register}
 use Rattle.model.specs.declared.Step.{Step}
 use Rattle.model.specs.declared.Step.the-variants as step
 use Rattle.model.specs.declared.Stepped.{Stepped}
+use Rattle.model.specs.declared.Transfer.{Transfer}
 
 abbrev pub registerOf : Machine → Access → Register
 registerOf m a = registerAt (m .settings) (a .port)
 
 abbrev pub offsetOf : Machine → Access → ℕ
 offsetOf m a = offsetAt (m .settings) (a .port)
+
+-- a bus access as a step
+abbrev pub busStep : Transfer → Step
+busStep t = cond (t .writes) (step.Write (t .access) (t .written)) (step.Read (t .access))
 
 -- ---- the lines of the table, by the kind of step
 

@@ -11,6 +11,13 @@ pub struct Access {
     pub port: u64,
 }
 
+// A bus access with its direction: a read, or a write of a value.
+pub struct Transfer {
+    pub access: Access,
+    pub writes: bool,
+    pub written: u64,
+}
+
 // What comes from outside the bus and the firmware, and may come between the halves of a split access.
 pub enum Event {
     // the power button goes down, or up

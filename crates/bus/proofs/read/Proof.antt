@@ -5,15 +5,12 @@ use Rattle.model.proofs.Steps.{reads-change-nothing}
 use Rattle.bus.proofs.read.Statement.{statement}
 use Rattle.bus.proofs.read.Tie as tie
 
-walk-requires : tie.Need-walk-requires
-walk-requires c κs = search needs
-
 read-answer-requires : tie.Need-read-answer-requires
 read-answer-requires c κs = search needs
 
 returns : tie.Need-returns
 unfolding answerTo registerAt offsetAt
-returns c = simp (c .read-answer .ensures, c .before .walk .ensures, reads-change-nothing)
+returns c = simp (c .read-answer .ensures, c .before .pre, reads-change-nothing)
 
 pub read-spec : {M : Type 1} → statement M
-read-spec = tie.close (tie.spec walk-requires read-answer-requires returns)
+read-spec = tie.close (tie.spec read-answer-requires returns)

@@ -6,9 +6,6 @@ use Rattle.bus.proofs.Laws.{write-accepted, write-refused}
 use Rattle.bus.proofs.write.Statement.{statement}
 use Rattle.bus.proofs.write.Tie as tie
 
-walk-requires : tie.Need-walk-requires
-walk-requires c κs = search needs
-
 write-answer-requires : tie.Need-write-answer-requires
 write-answer-requires c κs = search needs
 
@@ -24,7 +21,7 @@ write-cells-requires c κs = search needs
 returns : tie.Need-returns
 unfolding registerAt offsetAt
 returns c =
-    let at : _ = c .before .before .before .before .before .walk .ensures in
+    let at : _ = c .before .before .before .before .before .pre in
     write-accepted _ _ _ _ _ _ _ _ (ap (λ (p : Place). p .register) at) (ap (λ (p : Place). p .offset) at)
     (c .before .before .before .before .write-answer .ensures) (sym (c .before .before .before .accepted .ensures) ∙ c .before .before .if1 .taken)
     (c .before .low .ensures) (c .write-cells .ensures)
@@ -32,7 +29,7 @@ returns c =
 returns-2 : tie.Need-returns-2
 unfolding registerAt offsetAt
 returns-2 c =
-    let at : _ = c .before .before .before .walk .ensures in
+    let at : _ = c .before .before .before .pre in
     write-refused _ _ _ _ _ _ (ap (λ (p : Place). p .register) at) (ap (λ (p : Place). p .offset) at)
     (c .before .before .write-answer .ensures) (sym (c .before .accepted .ensures) ∙ c .if1 .left)
 
@@ -40,7 +37,6 @@ pub write-spec : {M : Type 1} → statement M
 write-spec =
     tie.close
     (tie.spec
-    walk-requires
     write-answer-requires
     accepted-requires
     low-requires

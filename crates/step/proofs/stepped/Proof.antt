@@ -1,21 +1,22 @@
+use Rattle.step.specs.Kinds.{stepOfKind}
+use Rattle.step.specs.declared.Kind.the-variants as kind
+use Rattle.step.proofs.Laws.{done-by-kind}
+use mathlib.Core.Path.{sym, _∙_}
 use borrow.Author.Needs.{needs}
 use Rattle.step.proofs.stepped.Statement.{statement}
 use Rattle.step.proofs.stepped.Tie as tie
 
-enum-known-s : tie.Need-enum-known-s
-enum-known-s c = search needs
+kind-of-requires : tie.Need-kind-of-requires
+kind-of-requires c κs = search needs
 
-read-requires : tie.Need-read-requires
-read-requires c κs = search needs
+enum-known-kind : tie.Need-enum-known-kind
+enum-known-kind c = search needs
 
-enum-known-s-2 : tie.Need-enum-known-s-2
-enum-known-s-2 c = search needs
+access-requires : tie.Need-access-requires
+access-requires c κs = search needs
 
-write-requires : tie.Need-write-requires
-write-requires c κs = search needs
-
-enum-known-s-3 : tie.Need-enum-known-s-3
-enum-known-s-3 c = search needs
+enum-known-kind-2 : tie.Need-enum-known-kind-2
+enum-known-kind-2 c = search needs
 
 event-requires : tie.Need-event-requires
 event-requires c κs = search needs
@@ -33,29 +34,29 @@ drop-requires : tie.Need-drop-requires
 drop-requires c κs = search needs
 
 returns : tie.Need-returns
-returns c = simp (c .read .ensures, c .before .before .s .given .1)
+unfolding stepOfKind
+returns c = done-by-kind _ _ (kind.Bus _) _ (sym (c .before .before .kind .given .1) ∙ c .before .before .before .before .kind-of .ensures) (c .access .ensures)
 
 returns-2 : tie.Need-returns-2
-returns-2 c = simp (c .write .ensures, c .before .before .s2 .given .1)
+unfolding stepOfKind
+returns-2 c = done-by-kind _ _ (kind.Event _) _ (sym (c .before .before .kind2 .given .1) ∙ c .before .before .before .before .kind-of .ensures) (c .event .ensures)
 
 returns-3 : tie.Need-returns-3
-returns-3 c = simp (c .event .ensures, c .before .before .s3 .given .1)
+unfolding stepOfKind
+returns-3 c = done-by-kind _ _ kind.Take _ (sym (c .before .enum-told .given .1) ∙ c .before .before .before .kind-of .ensures) (c .take .ensures)
 
 returns-4 : tie.Need-returns-4
-returns-4 c = simp (c .take .ensures, c .before .enum-told .given .1)
-
-returns-5 : tie.Need-returns-5
-returns-5 c = simp (c .drop .ensures, c .before .enum-told2 .given .1)
+unfolding stepOfKind
+returns-4 c = done-by-kind _ _ kind.Drop _ (sym (c .before .enum-told2 .given .1) ∙ c .before .before .before .kind-of .ensures) (c .drop .ensures)
 
 pub stepped-spec : {M : Type 1} → statement M
 stepped-spec =
     tie.close
     (tie.spec
-    enum-known-s
-    read-requires
-    enum-known-s-2
-    write-requires
-    enum-known-s-3
+    kind-of-requires
+    enum-known-kind
+    access-requires
+    enum-known-kind-2
     event-requires
     enum-told
     take-requires
@@ -64,5 +65,4 @@ stepped-spec =
     returns
     returns-2
     returns-3
-    returns-4
-    returns-5)
+    returns-4)
