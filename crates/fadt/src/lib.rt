@@ -72,8 +72,8 @@ pub fn settings(
     ensures { λ r. ⌜ r ≡ settingsOf (now (table .entry)) «event_homes» «control_homes» «power_override» pairs ⌝ }
 {
     let smi_cmd = dword_at(table, SMI_CMD) as u64;
-    let acpi_enable = byte(table, ACPI_ENABLE);
-    let acpi_disable = byte(table, ACPI_DISABLE);
+    let acpi_enable = byte_at(table, ACPI_ENABLE);
+    let acpi_disable = byte_at(table, ACPI_DISABLE);
     let pm1a_evt = pm1_block(table, PM1a_EVT_BLK, PM1_EVT_LEN);
     let pm1b_evt = pm1_block(table, PM1b_EVT_BLK, PM1_EVT_LEN);
     let pm1a_cnt = pm1_block(table, PM1a_CNT_BLK, PM1_CNT_LEN);
@@ -82,7 +82,7 @@ pub fn settings(
     let pm_tmr = block(table, PM_TMR_BLK, PM_TMR_LEN);
     let gpe0 = block(table, GPE0_BLK, GPE0_BLK_LEN);
     let gpe1 = block(table, GPE1_BLK, GPE1_BLK_LEN);
-    let gpe1_base = byte(table, GPE1_BASE);
+    let gpe1_base = byte_at(table, GPE1_BASE);
     let flags = dword_at(table, FLAGS);
     let sleep = SleepTable::new(pairs);
     Settings {
@@ -111,6 +111,12 @@ fn byte(table: &[u8], i: usize) -> u8
     ensures { λ r. ⌜ r ≡ getD (now (table .entry)) i 0 ⌝ }
 {
     if i < table.len() { table[i] } else { 0 }
+}
+
+fn byte_at(table: &[u8], at: u8) -> u8
+    ensures { λ r. ⌜ r ≡ getD (now (table .entry)) at 0 ⌝ }
+{
+    byte(table, at as usize)
 }
 
 // Four bytes, the lowest first.
@@ -194,7 +200,7 @@ fn block(table: &[u8], address: u8, length: u8) -> Block
     ensures { λ r. ⌜ r ≡ blockOf (now (table .entry)) address length ⌝ }
 {
     let first = dword_at(table, address) as u64;
-    let n = byte(table, length as usize);
+    let n = byte_at(table, length);
     Block::new(first, n)
 }
 
@@ -203,7 +209,7 @@ fn pm1_block(table: &[u8], address: u8, length: u8) -> Block
     ensures { λ r. ⌜ r ≡ pm1Block (now (table .entry)) address length ⌝ }
 {
     let first = dword_at(table, address) as u64;
-    let n = byte(table, length as usize);
+    let n = byte_at(table, length);
     Block::new(first, length_if(first != 0, n))
 }
 

@@ -8,14 +8,15 @@ dword-at-requires c κs = search needs
 cast-first : tie.Need-cast-first
 cast-first c = search needs
 
-byte-requires : tie.Need-byte-requires
-byte-requires c κs = search needs
+byte-at-requires : tie.Need-byte-at-requires
+byte-at-requires c κs = search needs
 
 new-requires : tie.Need-new-requires
 new-requires c κs = search needs
 
 returns : tie.Need-returns
-returns c = simp (c .new .ensures, c .before .byte .ensures, c .before .before .dword-at .ensures)
+returns c = simp (c .new .ensures, c .before .byte-at .ensures, c .before .before .dword-at .ensures)
 
 pub block-spec : {M : Type 1} → statement M
-block-spec = tie.close (tie.spec dword-at-requires cast-first byte-requires new-requires returns)
+block-spec =
+    tie.close (tie.spec dword-at-requires cast-first byte-at-requires new-requires returns)

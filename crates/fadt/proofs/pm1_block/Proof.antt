@@ -8,8 +8,8 @@ dword-at-requires c κs = search needs
 cast-first : tie.Need-cast-first
 cast-first c = search needs
 
-byte-requires : tie.Need-byte-requires
-byte-requires c κs = search needs
+byte-at-requires : tie.Need-byte-at-requires
+byte-at-requires c κs = search needs
 
 length-if-requires : tie.Need-length-if-requires
 length-if-requires c κs = search needs
@@ -18,9 +18,15 @@ new-requires : tie.Need-new-requires
 new-requires c κs = search needs
 
 returns : tie.Need-returns
-returns c = simp (c .new .ensures, c .before .length-if .ensures, c .before .before .byte .ensures, c .before .before .before .dword-at .ensures)
+returns c = simp (c .new .ensures, c .before .length-if .ensures, c .before .before .byte-at .ensures, c .before .before .before .dword-at .ensures)
 
 pub pm1-block-spec : {M : Type 1} → statement M
 pm1-block-spec =
     tie.close
-    (tie.spec dword-at-requires cast-first byte-requires length-if-requires new-requires returns)
+    (tie.spec
+    dword-at-requires
+    cast-first
+    byte-at-requires
+    length-if-requires
+    new-requires
+    returns)
