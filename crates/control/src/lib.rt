@@ -1,4 +1,8 @@
 // What a write to a PM1 control register does.
+use acpi::BM_RLD;
+use acpi::GBL_RLS;
+use acpi::SLP_EN;
+use acpi::SLP_TYPx;
 use bits::pick_bool;
 use bits::pick8;
 use machine::Machine;
@@ -15,15 +19,17 @@ ghost use Rattle.model.specs.Bus.{setsSlpEn, writtenTyp, typAfter, completes, a
 fn sets_slp_en(width: u32, offset: u64, written: u32) -> bool
     ensures { λ r. ⌜ r ≡ setsSlpEn width offset written ⌝ }
 {
-    covers_high(width, offset) & written_bit(offset, written, 13)
+    covers_high(width, offset) & written_bit(offset, written, SLP_EN)
 }
 
-// SLP_TYP, bits 10 to 12.
+// A control register with a sleep type of one.
+const SLP_TYP_UNIT: u64 = 1 << SLP_TYPx;
+
 fn written_typ(offset: u64, written: u32) -> u8
     ensures { λ r. ⌜ r ≡ writtenTyp offset written ⌝ }
 {
     let p = placed(offset, written);
-    (p / 1024 % 8) as u8
+    (p / SLP_TYP_UNIT % 8) as u8
 }
 
 // The latched SLP_TYP of block A, or of B where `of_b`, after a write to block `b`.
@@ -50,7 +56,7 @@ fn armed_after(m: Machine, b: bool, width: u32, offset: u64, written: u32) -> bo
     ensures { λ r. ⌜ r ≡ armedAfter m b width offset written ⌝ }
 {
     let s = m.settings;
-    let arms = written_bit(offset, written, 13) & (has_pm1b_cnt(s) & !b);
+    let arms = written_bit(offset, written, SLP_EN) & (has_pm1b_cnt(s) & !b);
     pick_bool(covers_high(width, offset), arms, m.armed)
 }
 
@@ -90,15 +96,16 @@ fn bm_rld_after(m: Machine, b: bool, offset: u64, written: u32) -> bool
     ensures { λ r. ⌜ r ≡ bmRldAfter m b offset written ⌝ }
 {
     let s = m.settings;
-    let taken = covers_low(offset) & control_in(s, b, 1);
-    pick_bool(taken, written_bit(offset, written, 1), m.bm_rld)
+    let taken = covers_low(offset) & control_in(s, b, BM_RLD);
+    pick_bool(taken, written_bit(offset, written, BM_RLD), m.bm_rld)
 }
 
 fn gbl_rls_after(m: Machine, b: bool, offset: u64, written: u32) -> bool
     ensures { λ r. ⌜ r ≡ gblRlsAfter m b offset written ⌝ }
 {
     let s = m.settings;
-    m.gbl_rls | (covers_low(offset) & (control_in(s, b, 2) & written_bit(offset, written, 2)))
+    m.gbl_rls
+        | (covers_low(offset) & (control_in(s, b, GBL_RLS) & written_bit(offset, written, GBL_RLS)))
 }
 
 // The cells after a control write, before any sleep.

@@ -1,4 +1,7 @@
 // The cells: where each lives, how a read shows them and what a write does to them.
+use acpi::BM_RLD;
+use acpi::SCI_EN;
+use acpi::SLP_TYPx;
 use bits::pick8;
 use bits::pick16;
 use bits::pick32;
@@ -156,7 +159,7 @@ pub fn placed(offset: u64, written: u32) -> u64
     }
 }
 
-// A control bit, 0 SCI_EN, 1 BM_RLD or 2 GBL_RLS, lives in the block.
+// A control bit, SCI_EN, BM_RLD or GBL_RLS, lives in the block.
 pub fn control_in(s: Settings, b: bool, bit: u8) -> bool
     ensures { λ r. ⌜ r ≡ controlIn s b bit ⌝ }
 {
@@ -181,15 +184,22 @@ fn slp_typ(m: Machine, b: bool) -> u8
     pick8(b, m.slp_typ_b, m.slp_typ_a)
 }
 
+// A control register with the one bit set, and with a sleep type of one.
+const SCI_EN_SET: u32 = 1 << SCI_EN;
+
+const BM_RLD_SET: u32 = 1 << BM_RLD;
+
+const SLP_TYP_UNIT: u32 = 1 << SLP_TYPx;
+
 // SCI_EN and BM_RLD in their homes, SLP_TYP in both; GBL_RLS and SLP_EN read zero.
 pub fn control_register(m: Machine, b: bool) -> u32
     ensures { λ r. ⌜ r ≡ controlRegister m b ⌝ }
 {
     let s = m.settings;
-    let sci_en = pick32(control_in(s, b, 0) & m.sci_en, 1, 0);
-    let bm_rld = pick32(control_in(s, b, 1) & m.bm_rld, 2, 0);
+    let sci_en = pick32(control_in(s, b, SCI_EN) & m.sci_en, SCI_EN_SET, 0);
+    let bm_rld = pick32(control_in(s, b, BM_RLD) & m.bm_rld, BM_RLD_SET, 0);
     let typ = slp_typ(m, b) as u32;
-    sci_en | bm_rld | (typ % 8 * 1024)
+    sci_en | bm_rld | (typ % 8 * SLP_TYP_UNIT)
 }
 
 // A control access covers the low byte, or the high byte.
