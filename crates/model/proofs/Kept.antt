@@ -36,11 +36,12 @@ use Rattle.machine.specs.declared.sleeping.WakeSource.{WakeSource}
 use Rattle.machine.specs.declared.sleeping.WakeSource.the-variants as source
 use Rattle.model.specs.Answer.{Line, firstApplying}
 use Rattle.model.specs.Bus.{leadsNowhere, completes, namedState, typAfter, armedAfter, controlled, controlWritten, gpeWritten, writeOf}
-use Rattle.model.specs.Events.{StatusBit, eventBit, pm1Mask, sourceOf, eventMask, eventSource, fitted, raised, inS5, pressOf, releaseOf, signalOf, pcieWakes, pcieWakeOf, inGpe0, inGpe1, generalRaised, generalEnabled, generalOf, clockOf, tmrRaised, timed, ticksOf, eventOf}
+use Rattle.model.specs.Events.{StatusBit, pm1, pm1Mask, sourceOf, eventMask, eventSource, fits, fitted, raised, inS5, pressOf, releaseOf, signalOf, pcieWakes, pcieWakeOf, inGpe0, inGpe1, generalRaised, generalEnabled, generalOf, clockOf, tmrRaised, timed, ticksOf, doneBy, eventOf}
 use Rattle.model.specs.Firmware.{isAcpiEnable, enablesAfter, sciEnAfter}
+use Rattle.model.specs.Kinds.{Kind}
 use Rattle.model.specs.Legal.{absentPair, stateAllowed}
 use Rattle.model.specs.Ports.{registers, placeAt, registerAt, offsetAt}
-use Rattle.model.specs.Step.{registerOf, offsetOf, unfitted, linesOf, doneOf, answerTo, accepted, after}
+use Rattle.model.specs.Step.{registerOf, offsetOf, unfitted, linesBy, linesOf, doneOf, answerTo, accepted, after}
 use Rattle.model.specs.declared.Answer.the-variants as answer
 use Rattle.model.specs.declared.Event.{Event}
 use Rattle.model.specs.declared.Event.the-variants as event
@@ -48,7 +49,9 @@ use Rattle.model.specs.declared.Register.{Register}
 use Rattle.model.specs.declared.Register.the-variants as register
 use Rattle.model.specs.declared.Step.{Step}
 use Rattle.model.specs.declared.Step.the-variants as step
-use Rattle.model.proofs.Fitted.{zero-within, or-within, part-within, shown-within, self-within, has-within, bm-within, gbl-within, tmr-within}
+use Rattle.model.proofs.EventBits.{Pair, pair-of}
+use Rattle.model.proofs.EventBits as pair
+use Rattle.model.proofs.Fitted.{zero-within, or-within, part-within, shown-within, self-within, has-within, tmr-within}
 use Rattle.model.proofs.Steps.{rowApplies, zero-exactly}
 use Rattle.model.proofs.Ticks.{ticks-closed-form}
 
@@ -224,9 +227,10 @@ passes : (m : Machine) (s : Step) → accepted (answerTo m s) ≡ true → (k : 
 passes m s e = zero-exactly m s .0 (eqb-true _ _ e)
 
 -- an accepted event that asks to be fitted is
-first-fits : (m : Machine) (e : Event) (ls : List Line) → accepted (firstApplying (unfitted m e ∷ ls) (answer.Done 0)) ≡ true → fitted (m .settings) e ≡ true
+first-fits : (m : Machine) (bit : StatusBit) (ls : List Line) → accepted (firstApplying (unfitted m bit ∷ ls) (answer.Done 0)) ≡ true
+    → fits (m .settings) (pm1Mask bit) ≡ true
 unfolding firstApplying
-first-fits m e ls = go (fitted (m .settings) e)
+first-fits m bit ls = go (fits (m .settings) (pm1Mask bit))
   where
     go : (t : Bool) → accepted (cond (not t) answer.NotFitted (firstApplying ls (answer.Done 0))) ≡ true → t ≡ true
     go true a = refl
@@ -286,18 +290,20 @@ module _ (P : Machine → Type 0) (keeps : Keeps P) where
       (λ o. keeps .raises (ticked m n) bits w (keeps .ticks m n up o p)))
       (λ e. p))
 
+  kind-kept : {bit : StatusBit} {k : Kind} → Pair bit k → (m : Machine) → accepted (firstApplying (linesBy m bit k) (answer.Done 0)) ≡ true
+      → P m → P (doneBy m bit k)
+  unfolding answerTo any
+  kind-kept pair.press m a p = press-kept m (first-fits m (pm1 8) _ a) p
+  kind-kept pair.release m a p = keeps .releases m p
+  kind-kept (pair.signal i l) m a p = signal-kept m (pm1 i) (has-within _ i (first-fits m (pm1 i) _ a)) p
+  kind-kept pair.pcie-wake m a p = pcie-kept m (has-within _ 14 (first-fits m (pm1 14) _ a)) p
+  kind-kept (pair.notice i l f) m a p = keeps .raises m (2 ^ i) (f (m .settings)) p
+  kind-kept (pair.general k) m a p = general-kept m k (not-false _ (or-left _ _ (passes m (step.Event (event.General k)) a 29))) p
+  kind-kept (pair.ticks n) m a p = ticks-kept m n p
+
   event-kept : (m : Machine) (e : Event) → accepted (answerTo m (step.Event e)) ≡ true → P m → P (eventOf m e)
-  unfolding answerTo eventOf any
-  event-kept m event.Press a p = press-kept m (first-fits m event.Press _ a) p
-  event-kept m event.Release a p = keeps .releases m p
-  event-kept m event.SleepPress a p = signal-kept m (eventBit event.SleepPress) (has-within _ 9 (first-fits m event.SleepPress _ a)) p
-  event-kept m event.Alarm a p = signal-kept m (eventBit event.Alarm) (has-within _ 10 (first-fits m event.Alarm _ a)) p
-  event-kept m event.PcieWake a p = pcie-kept m (has-within _ 14 (first-fits m event.PcieWake _ a)) p
-  event-kept m event.BusMaster a p = keeps .raises m (eventMask event.BusMaster) (bm-within (m .settings)) p
-  event-kept m event.Unlock a p = keeps .raises m (eventMask event.Unlock) (gbl-within (m .settings)) p
-  event-kept m (event.General k) a p =
-      general-kept m k (not-false _ (or-left _ _ (passes m (step.Event (event.General k)) a 29))) p
-  event-kept m (event.Ticks n) a p = ticks-kept m n p
+  unfolding answerTo eventOf
+  event-kept m e a p = kind-kept (pair-of e) m a p
 
   -- ---- writes
 

@@ -7,36 +7,23 @@ use mathlib.Core.Logic.{_↔_, _⊎_, inl, inr}
 use mathlib.Core.Bool.{Bool, true, false, not, cond, _&&_, and-false, false≢true}
 use mathlib.Core.List.{List, [], _∷_}
 use native.Mathlib.Omega.{arith}
-use borrow.Author.Tests.{eqb-true, eqb-false, eq-eqb, ne-eqb, ltb-true, leb-false}
-use lib.Dec.{eqb, ltb, leb, lit≤}
+use borrow.Author.Tests.{eqb-true, eqb-false, eq-eqb, ne-eqb, ltb-true}
+use lib.Dec.{eqb, ltb, lit≤}
 use Rattle.lists.specs.Any.{any}
 use Rattle.lists.proofs.Tests.{and-left, and-right}
-use Rattle.bits.specs.Digit.{digit}
-use Rattle.bits.proofs.Digits.{digit-or, below-or-beyond}
-use Rattle.clock.specs.AtOnce.{ranOf, counterAfter}
-use Rattle.clock.specs.Clock.{counterBits, holdLimit}
+use Rattle.bits.proofs.Digits.{below-or-beyond}
 use Rattle.machine.specs.declared.Machine.{Machine}
-use Rattle.platform.specs.Cells.{wideTimer}
-use Rattle.platform.specs.declared.settings.Settings.{Settings}
 use Rattle.model.specs.Answer.{numberOf, valueOf, Line, firstApplying}
-use Rattle.model.specs.Bus.{readOf, completes, namedState, controlled, writeOf}
-use Rattle.machine.specs.Cells.{slpbtnBit, rtcBit, pciexpWakeBit, hasBit}
-use Rattle.model.specs.Events.{raised, inS5, pressOf, signalOf, pcieWakeOf, generalRaised, generalEnabled, generalOf, ticksOf, eventOf}
-use Rattle.machine.specs.Fields.{enter}
-use Rattle.machine.specs.Lines.{awake}
-use Rattle.machine.specs.Sleep.{isSleeping, woken, wokenIf, pending, completed, restarted}
-use Rattle.model.specs.Step.{registerOf, offsetOf, eventLines, linesOf, doneValue, doneOf, answerTo, accepted, after}
+use Rattle.model.specs.Events.{StatusBit, eventBit}
+use Rattle.model.specs.Kinds.{Kind, kindOf}
+use Rattle.model.specs.Kinds as kind
+use Rattle.model.specs.Step.{linesBy, linesOf, doneValue, doneOf, answerTo, accepted, after}
 use Rattle.model.specs.declared.Access.{Access}
 use Rattle.model.specs.declared.Answer.{Answer}
 use Rattle.model.specs.declared.Answer.the-variants as answer
-use Rattle.model.specs.declared.Event.{Event}
-use Rattle.model.specs.declared.Event.the-variants as event
-use Rattle.model.specs.declared.Register.{Register}
-use Rattle.model.specs.declared.Register.the-variants as register
 use Rattle.model.specs.declared.Step.{Step}
 use Rattle.model.specs.declared.Step.the-variants as step
-use Rattle.model.proofs.LinesExactly.{awake-exactly}
-use Rattle.model.proofs.Ticks.{cond-same, ticks-add, ticks-settings, ticks-counter, held-state}
+use Rattle.model.proofs.Ticks.{cond-same}
 
 -- ---- answers
 
@@ -189,22 +176,20 @@ module _ (last : Answer) where
 
 -- ---- which number is given
 
-events-rise : (m : Machine) (e : Event) → rising 0 (eventLines m e) ≡ true
-events-rise m event.Press = refl
-events-rise m event.Release = refl
-events-rise m event.SleepPress = refl
-events-rise m event.Alarm = refl
-events-rise m event.PcieWake = refl
-events-rise m event.BusMaster = refl
-events-rise m event.Unlock = refl
-events-rise m (event.General k) = refl
-events-rise m (event.Ticks n) = refl
+events-rise : (m : Machine) (bit : StatusBit) (k : Kind) → rising 0 (linesBy m bit k) ≡ true
+events-rise m bit kind.press = refl
+events-rise m bit kind.release = refl
+events-rise m bit kind.signal = refl
+events-rise m bit kind.pcieWake = refl
+events-rise m bit kind.notice = refl
+events-rise m bit (kind.general k) = refl
+events-rise m bit (kind.ticks n) = refl
 
 -- the lines stand in the order of their numbers
 pub lines-rise : (m : Machine) (s : Step) → rising 0 (linesOf m s) ≡ true
 lines-rise m (step.Read a) = refl
 lines-rise m (step.Write a written) = refl
-lines-rise m (step.Event e) = events-rise m e
+lines-rise m (step.Event e) = events-rise m (eventBit e) (kindOf e)
 lines-rise m step.Take = refl
 lines-rise m step.Drop = refl
 
