@@ -141,40 +141,93 @@ abbrev pub overriddenBy : Machine → ℕ → Bool
 overriddenBy m n = overriddenIn (m .button) (m .settings .«power_override») (m .hold) n
 
 -- what a rule may assume where it changes the machine, and that the property outlasts the change
-pub record Keeps (P : Machine → Type 0) : Type 0 where
+module _ (P : Machine → Type 0) where
   -- fitted status bits are set, any are cleared
-  pub raises : (m : Machine) (bits : ℕ) → within (statusCells (m .settings)) bits ≡ true → P m → P (raised m bits)
-  pub clears : (m : Machine) (bits : ℕ) → P m → P (withEvent m (kept 16 (m .«pm1_sts») bits) (m .«pm1_en»))
+  abbrev pub KeptRaising : Type 0
+  KeptRaising = (m : Machine) (bits : ℕ) → within (statusCells (m .settings)) bits ≡ true → P m → P (raised m bits)
+
+  abbrev pub KeptClearing : Type 0
+  KeptClearing = (m : Machine) (bits : ℕ) → P m → P (withEvent m (kept 16 (m .«pm1_sts») bits) (m .«pm1_en»))
+
   -- enables are written, fitted ones alone, or cleared
-  pub enables : (m : Machine) (cells : ℕ)
+  abbrev pub KeptEnabling : Type 0
+  KeptEnabling = (m : Machine) (cells : ℕ)
       → (within (enableCells (m .settings)) (m .«pm1_en») ≡ true → within (enableCells (m .settings)) cells ≡ true)
       → P m → P (withEvent m (m .«pm1_sts») cells)
+
   -- a general event byte is written, and a general event sets its bit
-  pub bytes0 : (m : Machine) (offset written : ℕ) → offset < m .settings .gpe0 .length → P m → P (gpeWritten m false offset written)
-  pub bytes1 : (m : Machine) (offset written : ℕ) → offset < m .settings .gpe1 .length → P m → P (gpeWritten m true offset written)
-  pub general : (m : Machine) (k : ℕ) → (inGpe0 (m .settings) k || inGpe1 (m .settings) k) ≡ true → P m → P (generalRaised m k)
+  abbrev pub KeptWritingGpe0 : Type 0
+  KeptWritingGpe0 = (m : Machine) (offset written : ℕ) → offset < m .settings .gpe0 .length → P m → P (gpeWritten m false offset written)
+
+  abbrev pub KeptWritingGpe1 : Type 0
+  KeptWritingGpe1 = (m : Machine) (offset written : ℕ) → offset < m .settings .gpe1 .length → P m → P (gpeWritten m true offset written)
+
+  abbrev pub KeptByGeneral : Type 0
+  KeptByGeneral = (m : Machine) (k : ℕ) → (inGpe0 (m .settings) k || inGpe1 (m .settings) k) ≡ true → P m → P (generalRaised m k)
+
   -- a command is latched, and taken
-  pub commands : (m : Machine) (written : ℕ) → present (smiBlock (m .settings)) ≡ true → written < 256 → P m → P (withCommand m true written)
-  pub takes : (m : Machine) (sci-en : Bool) → m .«command_waits» ≡ true → P m → P (withCommand (withSciEn m sci-en) false 0)
+  abbrev pub KeptLatching : Type 0
+  KeptLatching = (m : Machine) (written : ℕ) → present (smiBlock (m .settings)) ≡ true → written < 256 → P m → P (withCommand m true written)
+
+  abbrev pub KeptTaking : Type 0
+  KeptTaking = (m : Machine) (sci-en : Bool) → m .«command_waits» ≡ true → P m → P (withCommand (withSciEn m sci-en) false 0)
+
   -- control cells are written
-  pub controls : (m : Machine) (bm-rld gbl-rls : Bool) (a b : ℕ) (armed : Bool)
+  abbrev pub KeptControlling : Type 0
+  KeptControlling = (m : Machine) (bm-rld gbl-rls : Bool) (a b : ℕ) (armed : Bool)
       → awake m ≡ true
       → (m .«slp_typ_a» < 8 → a < 8)
       → (m .«slp_typ_b» < 8 → b < 8)
       → (hasPm1bCnt (m .settings) ≡ false → b ≡ m .«slp_typ_b»)
       → (hasPm1bCnt (m .settings) ≡ false → armed ≡ true → m .armed ≡ true)
       → P m → P (withControl m bm-rld gbl-rls a b armed)
-  pub arbitrates : (m : Machine) (arb-dis : Bool) → present (m .settings .«pm2_cnt») ≡ true → P m → P (withArbDis m arb-dis)
+
+  abbrev pub KeptArbitrating : Type 0
+  KeptArbitrating = (m : Machine) (arb-dis : Bool) → present (m .settings .«pm2_cnt») ≡ true → P m → P (withArbDis m arb-dis)
+
   -- sleep and wake
-  pub sleeps : (m : Machine) (state : ℕ) → awake m ≡ true → stateAllowed (m .settings) state ≡ true → P m → P (enter m state)
-  pub wakes : (source : WakeSource) (m : Machine) → isSleeping (m .state) ≡ true → P m → P (woken source m)
+  abbrev pub KeptSleeping : Type 0
+  KeptSleeping = (m : Machine) (state : ℕ) → awake m ≡ true → stateAllowed (m .settings) state ≡ true → P m → P (enter m state)
+
+  abbrev pub KeptWaking : Type 0
+  KeptWaking = (source : WakeSource) (m : Machine) → isSleeping (m .state) ≡ true → P m → P (woken source m)
+
   -- the power button
-  pub restarts : (m : Machine) → fitted (m .settings) event.Press ≡ true → P m → P (withButton (restarted m) true 0)
-  pub presses : (m : Machine) → fitted (m .settings) event.Press ≡ true → P m → P (withButton m true 0)
-  pub releases : (m : Machine) → P m → P (releaseOf m)
+  abbrev pub KeptRestarting : Type 0
+  KeptRestarting = (m : Machine) → fitted (m .settings) event.Press ≡ true → P m → P (withButton (restarted m) true 0)
+
+  abbrev pub KeptPressing : Type 0
+  KeptPressing = (m : Machine) → fitted (m .settings) event.Press ≡ true → P m → P (withButton m true 0)
+
+  abbrev pub KeptReleasing : Type 0
+  KeptReleasing = (m : Machine) → P m → P (releaseOf m)
+
   -- ticks, and those with the override
-  pub ticks : (m : Machine) (n : ℕ) → awake m ≡ true → overriddenBy m n ≡ false → P m → P (ticked m n)
-  pub overrides : (m : Machine) (n : ℕ) → awake m ≡ true → overriddenBy m n ≡ true → P m → P (enter (ticked m n) 5)
+  abbrev pub KeptTicking : Type 0
+  KeptTicking = (m : Machine) (n : ℕ) → awake m ≡ true → overriddenBy m n ≡ false → P m → P (ticked m n)
+
+  abbrev pub KeptOverriding : Type 0
+  KeptOverriding = (m : Machine) (n : ℕ) → awake m ≡ true → overriddenBy m n ≡ true → P m → P (enter (ticked m n) 5)
+
+-- by each of them. `search` finds those that do not look at what is changed.
+pub record Keeps (P : Machine → Type 0) : Type 0 where
+  pub raises : KeptRaising P
+  pub clears : KeptClearing P
+  pub enables : KeptEnabling P
+  pub bytes0 : KeptWritingGpe0 P
+  pub bytes1 : KeptWritingGpe1 P
+  pub general : KeptByGeneral P
+  pub commands : KeptLatching P
+  pub takes : KeptTaking P
+  pub controls : KeptControlling P
+  pub arbitrates : KeptArbitrating P
+  pub sleeps : KeptSleeping P
+  pub wakes : KeptWaking P
+  pub restarts : KeptRestarting P
+  pub presses : KeptPressing P
+  pub releases : KeptReleasing P
+  pub ticks : KeptTicking P
+  pub overrides : KeptOverriding P
 
 -- one machine or the other
 pick : (P : Machine → Type 0) (t : Bool) (x y : Machine) → (t ≡ true → P x) → (t ≡ false → P y) → P (cond t x y)
