@@ -3,15 +3,18 @@ use Prim.Native.Nat.{ℕ}
 use Rattle.model.specs.declared.Event.{Event}
 use Rattle.model.specs.declared.Event.the-variants as event
 
--- "press" and "release", of the power button; a signal, of a device that may not be fitted; "PCIe wake"; a notice, of what is always
--- fitted, outside S0 refused; a general event, by its number; so many ticks
 pub data Kind : Type 0 where
+  -- the power button goes down, or up
   press : Kind
   release : Kind
+  -- "Sleep press, alarm .. set their bits": they have to be fitted, and wake "if enabled"
   signal : Kind
   pcieWake : Kind
+  -- "bus-master, unlock (global lock released) .. set their bits", in S0 alone
   notice : Kind
+  -- by its number
   general : ℕ → Kind
+  -- so many
   ticks : ℕ → Kind
 
 abbrev pub kindOf : Event → Kind

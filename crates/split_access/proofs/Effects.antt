@@ -79,32 +79,32 @@ quiet a sets =
     }
 
 -- the bit is fitted
-abbrev has : Settings → StatusBit → Bool
-has s bit = fits s (pm1Mask bit)
+abbrev isFitted : Settings → StatusBit → Bool
+isFitted s bit = fits s (pm1Mask bit)
 
 abbrev fittedAnswer : Settings → StatusBit → Answer
-fittedAnswer s bit = cond (not (has s bit)) answer.NotFitted (answer.Done 0)
+fittedAnswer s bit = cond (not (isFitted s bit)) answer.NotFitted (answer.Done 0)
 
 abbrev pub liveOf : Settings → StatusBit → Kind → Live
 liveOf s bit kind.press =
     record {
-      answer = λ b. cond (not (has s bit)) answer.NotFitted (cond b answer.ButtonAlready (answer.Done 0));
-      sets = λ b h c. has s bit && not b;
-      button = λ b. has s bit || b;
-      hold = λ b h c. cond (has s bit && not b) 0 h;
+      answer = λ b. cond (not (isFitted s bit)) answer.NotFitted (cond b answer.ButtonAlready (answer.Done 0));
+      sets = λ b h c. isFitted s bit && not b;
+      button = λ b. isFitted s bit || b;
+      hold = λ b h c. cond (isFitted s bit && not b) 0 h;
       counter = λ b h c. c;
       off = λ b h c. false;
     }
 liveOf s bit kind.release =
     record {
-      answer = λ b. cond (not (has s bit)) answer.NotFitted (cond (not b) answer.ButtonAlready (answer.Done 0));
+      answer = λ b. cond (not (isFitted s bit)) answer.NotFitted (cond (not b) answer.ButtonAlready (answer.Done 0));
       sets = λ b h c. false;
-      button = λ b. not (has s bit) && b;
+      button = λ b. not (isFitted s bit) && b;
       hold = λ b h c. h;
       counter = λ b h c. c;
       off = λ b h c. false;
     }
-liveOf s bit kind.signal = quiet (fittedAnswer s bit) (has s bit)
+liveOf s bit kind.signal = quiet (fittedAnswer s bit) (isFitted s bit)
 liveOf s bit kind.pcieWake = quiet (fittedAnswer s bit) false
 liveOf s bit kind.notice = quiet (answer.Done 0) true
 liveOf s bit (kind.general k) = quiet (cond (not (inGpe0 s k || inGpe1 s k)) answer.NoSuchEvent (answer.Done 0)) false
@@ -159,18 +159,18 @@ AffectsBy m bit k =
 
 press-affects : (m : Machine) → m .state ≡ 0 → AffectsBy m (pm1 8) kind.press
 unfolding firstApplying pressOf inS5 isSleeping
-press-affects m z = go (has (m .settings) (pm1 8)) (m .button) refl refl
+press-affects m z = go (isFitted (m .settings) (pm1 8)) (m .button) refl refl
   where
-    go : (f b : Bool) → has (m .settings) (pm1 8) ≡ f → m .button ≡ b → AffectsBy m (pm1 8) kind.press
+    go : (f b : Bool) → isFitted (m .settings) (pm1 8) ≡ f → m .button ≡ b → AffectsBy m (pm1 8) kind.press
     go false b p q = rw (p, or-zero-r (m .«pm1_sts»)) (refl, refl)
     go true true p q = rw (p, q, or-zero-r (m .«pm1_sts»)) (refl, refl)
     go true false p q = rw (p, q, z) (refl, refl)
 
 release-affects : (m : Machine) → AffectsBy m (pm1 8) kind.release
 unfolding firstApplying
-release-affects m = go (has (m .settings) (pm1 8)) (m .button) refl refl
+release-affects m = go (isFitted (m .settings) (pm1 8)) (m .button) refl refl
   where
-    go : (f b : Bool) → has (m .settings) (pm1 8) ≡ f → m .button ≡ b → AffectsBy m (pm1 8) kind.release
+    go : (f b : Bool) → isFitted (m .settings) (pm1 8) ≡ f → m .button ≡ b → AffectsBy m (pm1 8) kind.release
     go false b p q = rw (p, or-zero-r (m .«pm1_sts»)) (refl, refl)
     go true true p q = rw (p, q, or-zero-r (m .«pm1_sts»)) (refl, refl)
     go true false p q = rw (p, q, or-zero-r (m .«pm1_sts»)) (refl, refl)
@@ -182,17 +182,17 @@ signal-done m bit z = rw z refl
 
 signal-affects : (m : Machine) (i : ℕ) → m .state ≡ 0 → AffectsBy m (pm1 i) kind.signal
 unfolding firstApplying
-signal-affects m i z = go (has (m .settings) (pm1 i)) refl
+signal-affects m i z = go (isFitted (m .settings) (pm1 i)) refl
   where
-    go : (f : Bool) → has (m .settings) (pm1 i) ≡ f → AffectsBy m (pm1 i) kind.signal
+    go : (f : Bool) → isFitted (m .settings) (pm1 i) ≡ f → AffectsBy m (pm1 i) kind.signal
     go false p = rw (p, or-zero-r (m .«pm1_sts»)) (refl, refl)
     go true p = rw (p, signal-done m (pm1 i) z) (refl, refl)
 
 pcie-wake-affects : (m : Machine) → m .state ≡ 0 → AffectsBy m (pm1 14) kind.pcieWake
 unfolding firstApplying pcieWakeOf isSleeping
-pcie-wake-affects m z = go (has (m .settings) (pm1 14)) refl
+pcie-wake-affects m z = go (isFitted (m .settings) (pm1 14)) refl
   where
-    go : (f : Bool) → has (m .settings) (pm1 14) ≡ f → AffectsBy m (pm1 14) kind.pcieWake
+    go : (f : Bool) → isFitted (m .settings) (pm1 14) ≡ f → AffectsBy m (pm1 14) kind.pcieWake
     go false p = rw (p, or-zero-r (m .«pm1_sts»)) (refl, refl)
     go true p = rw (p, or-zero-r (m .«pm1_sts»), z) (refl, refl)
 
