@@ -24,12 +24,11 @@ pub(crate) fn fits(s: Settings, bit: u16) -> bool
     has_bit(platform::status_cells(s), bit)
 }
 
-pub(crate) fn raise(m: Machine, bits: u16) -> Machine
+pub(crate) fn raise(mut m: Machine, bits: u16) -> Machine
     ensures { λ r. ⌜ r ≡ raised m bits ⌝ }
 {
-    let mut next = m;
-    next.pm1_sts = next.pm1_sts | bits;
-    next
+    m.pm1_sts = m.pm1_sts | bits;
+    m
 }
 
 pub(crate) fn in_s5(m: Machine) -> bool
@@ -39,7 +38,7 @@ pub(crate) fn in_s5(m: Machine) -> bool
 }
 
 // A press wakes: from S5 to a machine started anew, from S1 to S4 with its registers kept.
-fn roused(m: Machine) -> Machine
+fn woken_by_press(m: Machine) -> Machine
     ensures { λ r. ⌜ r ≡ cond (inS5 m) (restarted m) (wokenIf (eventSource event.Press) true m) ⌝ }
 {
     if in_s5(m) {
@@ -49,29 +48,27 @@ fn roused(m: Machine) -> Machine
     }
 }
 
-fn button_down(m: Machine) -> Machine
+fn button_down(mut m: Machine) -> Machine
     ensures { λ r. ⌜ r ≡ withButton (raised m pwrbtnBit) true 0 ⌝ }
 {
-    let mut next = m;
-    next.pm1_sts = next.pm1_sts | PWRBTN;
-    next.button = true;
-    next.hold = 0;
-    next
+    m.pm1_sts = m.pm1_sts | PWRBTN;
+    m.button = true;
+    m.hold = 0;
+    m
 }
 
 pub(crate) fn press(m: Machine) -> Machine
     ensures { λ r. ⌜ r ≡ pressOf m ⌝ }
 {
-    button_down(roused(m))
+    button_down(woken_by_press(m))
 }
 
 // The button goes up; hold is kept.
-pub(crate) fn release(m: Machine) -> Machine
+pub(crate) fn release(mut m: Machine) -> Machine
     ensures { λ r. ⌜ r ≡ releaseOf m ⌝ }
 {
-    let mut next = m;
-    next.button = false;
-    next
+    m.button = false;
+    m
 }
 
 fn signal_wakes(m: Machine, bit: u16) -> bool

@@ -16,19 +16,25 @@ pub(crate) fn in_gpe0(s: Settings, k: u32) -> bool
     (k as u64) < platform::event_count(block)
 }
 
+fn wide(x: u8) -> u64
+    ensures { λ r. ⌜ r ≡ x ⌝ }
+{
+    x as u64
+}
+
 // How far the number lies past GPE1_BASE; zero below it.
 fn past_base(s: Settings, k: u32) -> u64
     ensures { λ r. ⌜ r ≡ k - s .«gpe1_base» ⌝ }
 {
-    bits::past(k as u64, s.gpe1_base as u64)
+    bits::past(k as u64, wide(s.gpe1_base))
 }
 
 pub(crate) fn in_gpe1(s: Settings, k: u32) -> bool
     ensures { λ r. ⌜ r ≡ inGpe1 s k ⌝ }
 {
     let block = s.gpe1;
-    let base = s.gpe1_base as u32;
-    (base <= k) & (past_base(s, k) < platform::event_count(block))
+    let base = wide(s.gpe1_base);
+    (base <= k as u64) & (past_base(s, k) < platform::event_count(block))
 }
 
 fn number_in(s: Settings, k: u32) -> u64
@@ -73,21 +79,20 @@ fn is_enabled(xs: [u8; GPE_BYTES], k: u64) -> bool
     }
 }
 
-fn general_raised(m: Machine, k: u32) -> Machine
+fn general_raised(mut m: Machine, k: u32) -> Machine
     ensures { λ r. ⌜ r ≡ generalRaised m k ⌝ }
 {
     let s = m.settings;
     let sts0 = m.gpe0_sts;
     let sts1 = m.gpe1_sts;
-    let mut next = m;
     if in_gpe0(s, k) {
         let raised = with_bit(sts0, k as u64);
-        next.gpe0_sts = raised;
-        next
+        m.gpe0_sts = raised;
+        m
     } else {
         let raised = with_bit(sts1, number_in(s, k));
-        next.gpe1_sts = raised;
-        next
+        m.gpe1_sts = raised;
+        m
     }
 }
 

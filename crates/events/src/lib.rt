@@ -103,6 +103,13 @@ fn general_answer(s: Settings, k: u32) -> Answer
     }
 }
 
+// Ticks are never refused.
+fn ticks_answer() -> Answer
+    ensures { λ r. ⌜ r ≡ firstApplying [] (answer.Done 0) ⌝ }
+{
+    Answer::Done(0)
+}
+
 fn answer(m: Machine, e: Event) -> Answer
     ensures { λ r. ⌜ r ≡ answerTo m (step.Event e) ⌝ }
 {
@@ -117,7 +124,7 @@ fn answer(m: Machine, e: Event) -> Answer
         Event::BusMaster => awake_answer(m),
         Event::Unlock => awake_answer(m),
         Event::General(k) => general_answer(s, k),
-        Event::Ticks(_) => Answer::Done(0),
+        Event::Ticks(_) => ticks_answer(),
     }
 }
 

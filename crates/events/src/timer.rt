@@ -19,13 +19,12 @@ fn tmr_raised(s: Settings, turns: u32) -> u16
     pick16(fits(s, TMR) & (turns != 0), TMR, 0)
 }
 
-fn set_time(m: Machine, counter: u32, hold: u32) -> Machine
+fn set_time(mut m: Machine, counter: u32, hold: u32) -> Machine
     ensures { λ r. ⌜ r ≡ withTime m counter hold ⌝ }
 {
-    let mut next = m;
-    next.counter = counter;
-    next.hold = hold;
-    next
+    m.counter = counter;
+    m.hold = hold;
+    m
 }
 
 fn overridden_if(off: bool, m: Machine) -> Machine

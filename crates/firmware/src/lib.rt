@@ -56,13 +56,19 @@ fn take_command(mut m: Machine) -> Machine
     m
 }
 
+fn wide(x: u8) -> u32
+    ensures { λ r. ⌜ r ≡ x ⌝ }
+{
+    x as u32
+}
+
 // 20 and 31; else the command.
 fn take_answer(m: Machine) -> Answer
     ensures { λ r. ⌜ r ≡ answerTo m step.Take ⌝ }
 {
     if awake(m) {
         if m.command_waits {
-            Answer::Done(m.command as u32)
+            Answer::Done(wide(m.command))
         } else {
             Answer::NoCommand
         }

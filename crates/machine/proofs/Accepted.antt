@@ -11,12 +11,12 @@ use Rattle.platform.specs.Legal.{legalSettings, HasNone, Guaranteed}
 use Rattle.platform.specs.declared.settings.Settings.{Settings}
 use Rattle.platform.specs.declared.rules.SetUpAnswer.the-variants as answer
 use Rattle.platform.specs.declared.rules.SetUpRefusal.{SetUpRefusal}
-use Rattle.platform.proofs.Answers.{done-passes, refusal-not-zero}
+use Rattle.platform.proofs.Answers.{done-passes}
 use Rattle.platform.proofs.Legal.{settings-legal, legal-guaranteed}
 use Rattle.fadt.specs.Fields.{pm1Block, settingsOf}
 use Rattle.fadt.specs.Table.{setUpRules}
 use Rattle.machine.specs.PowerOn.{powerOn, allZero}
-use Rattle.machine.specs.SetUp.{machineFor, setUpFrom, setUpOf}
+use Rattle.machine.specs.SetUp.{setUpFrom, setUpOf}
 
 module _ (t : List ℕ) (s : Settings) where
   -- no line of the table refuses
@@ -24,13 +24,11 @@ module _ (t : List ℕ) (s : Settings) where
   accepted-passes e = done-passes (setUpRules t s) e
 
   pub accepted-machine : setUpFrom t s .answer ≡ answer.Done → setUpFrom t s .machine ≡ powerOn s
-  unfolding machineFor
   accepted-machine e = rw e refl
 
   -- "any refusal to make one gives it all zero"
   pub refused-machine : (r : SetUpRefusal) → setUpFrom t s .answer ≡ answer.Refused r → setUpFrom t s .machine ≡ allZero
-  unfolding machineFor
-  refused-machine r e = rw (e, refusal-not-zero r) refl
+  refused-machine r e = rw e refl
 
 -- a PM1 block read as absent has no length
 pm1-none : (t : List ℕ) (address length : ℕ) → HasNone (pm1Block t address length)

@@ -148,13 +148,12 @@ pub fn all_zero() -> Machine
 }
 
 // The machine that goes with an answer: power-on, or all zero.
-fn machine_for(number: u8, settings: Settings) -> Machine
-    ensures { λ r. ⌜ r ≡ machineFor number settings ⌝ }
+fn machine_for(answer: SetUpAnswer, settings: Settings) -> Machine
+    ensures { λ r. ⌜ r ≡ machineFor answer settings ⌝ }
 {
-    if number == 0 {
-        power_on(settings)
-    } else {
-        all_zero()
+    match answer {
+        SetUpAnswer::Done => power_on(settings),
+        SetUpAnswer::Refused(_) => all_zero(),
     }
 }
 
@@ -170,6 +169,6 @@ pub fn set_up(
 {
     let s = fadt::settings(table, event_homes, control_homes, power_override, pairs);
     let answer = fadt::judge(table, s);
-    let machine = machine_for(platform::number(answer), s);
+    let machine = machine_for(answer, s);
     SetUp { answer, machine }
 }

@@ -13,10 +13,10 @@ use Rattle.platform.specs.Cells.{wideTimer}
 use Rattle.machine.specs.Lines.{awake}
 use Rattle.machine.specs.declared.Machine.{Machine}
 use Rattle.model.specs.Answer.{numberOf, valueOf}
-use Rattle.model.specs.Events.{clockOf, timed, eventOf}
+use Rattle.model.specs.Events.{StatusBit, eventBit, clockOf, timed, doneBy, eventOf}
+use Rattle.model.specs.Kinds.{Kind, kindOf}
+use Rattle.model.specs.Kinds as kind
 use Rattle.model.specs.Step.{doneOf, answerTo, accepted, after}
-use Rattle.model.specs.declared.Event.{Event}
-use Rattle.model.specs.declared.Event.the-variants as event
 use Rattle.model.specs.declared.Step.{Step}
 use Rattle.model.specs.declared.Step.the-variants as step
 use Rattle.model.proofs.Ticks.{ticks-closed-form}
@@ -27,41 +27,37 @@ use Rattle.marked_cases.specs.Rows.{Expected, Registers, Row, registersO
 ticksAtOnce : ℕ → Machine → Machine
 ticksAtOnce n m = cond (awake m) (timed m (afterOf (wideTimer (m .settings)) (m .button) (m .settings .«power_override») n (clockOf m))) m
 
-eventAtOnce : Machine → Event → Machine
-eventAtOnce m event.Press = eventOf m event.Press
-eventAtOnce m event.Release = eventOf m event.Release
-eventAtOnce m event.SleepPress = eventOf m event.SleepPress
-eventAtOnce m event.Alarm = eventOf m event.Alarm
-eventAtOnce m event.PcieWake = eventOf m event.PcieWake
-eventAtOnce m event.BusMaster = eventOf m event.BusMaster
-eventAtOnce m event.Unlock = eventOf m event.Unlock
-eventAtOnce m (event.General k) = eventOf m (event.General k)
-eventAtOnce m (event.Ticks n) = ticksAtOnce n m
+eventAtOnce : Machine → StatusBit → Kind → Machine
+eventAtOnce m bit kind.press = doneBy m bit kind.press
+eventAtOnce m bit kind.release = doneBy m bit kind.release
+eventAtOnce m bit kind.signal = doneBy m bit kind.signal
+eventAtOnce m bit kind.pcieWake = doneBy m bit kind.pcieWake
+eventAtOnce m bit kind.notice = doneBy m bit kind.notice
+eventAtOnce m bit (kind.general k) = doneBy m bit (kind.general k)
+eventAtOnce m bit (kind.ticks n) = ticksAtOnce n m
 
-event-at-once : (m : Machine) (e : Event) → eventAtOnce m e ≡ eventOf m e
-unfolding eventAtOnce ticksAtOnce eventOf
-event-at-once m event.Press = refl
-event-at-once m event.Release = refl
-event-at-once m event.SleepPress = refl
-event-at-once m event.Alarm = refl
-event-at-once m event.PcieWake = refl
-event-at-once m event.BusMaster = refl
-event-at-once m event.Unlock = refl
-event-at-once m (event.General k) = refl
-event-at-once m (event.Ticks n) = sym (ticks-closed-form n m)
+event-at-once : (m : Machine) (bit : StatusBit) (k : Kind) → eventAtOnce m bit k ≡ doneBy m bit k
+unfolding eventAtOnce ticksAtOnce
+event-at-once m bit kind.press = refl
+event-at-once m bit kind.release = refl
+event-at-once m bit kind.signal = refl
+event-at-once m bit kind.pcieWake = refl
+event-at-once m bit kind.notice = refl
+event-at-once m bit (kind.general k) = refl
+event-at-once m bit (kind.ticks n) = sym (ticks-closed-form n m)
 
 doneAtOnce : Machine → Step → Machine
 doneAtOnce m (step.Read a) = doneOf m (step.Read a)
 doneAtOnce m (step.Write a written) = doneOf m (step.Write a written)
-doneAtOnce m (step.Event e) = eventAtOnce m e
+doneAtOnce m (step.Event e) = eventAtOnce m (eventBit e) (kindOf e)
 doneAtOnce m step.Take = doneOf m step.Take
 doneAtOnce m step.Drop = doneOf m step.Drop
 
 done-at-once : (m : Machine) (s : Step) → doneAtOnce m s ≡ doneOf m s
-unfolding doneAtOnce
+unfolding doneAtOnce eventOf
 done-at-once m (step.Read a) = refl
 done-at-once m (step.Write a written) = refl
-done-at-once m (step.Event e) = event-at-once m e
+done-at-once m (step.Event e) = event-at-once m (eventBit e) (kindOf e)
 done-at-once m step.Take = refl
 done-at-once m step.Drop = refl
 

@@ -1,23 +1,55 @@
--- An event goes by a bit of the PM1 status, or is a general event. Assumes nothing.
-use mathlib.Core.Path.{_≡_, refl}
+-- An event's bit and kind are one of a few pairs: a bit of the PM1 status, in the register, and for a notice always fitted; or a general
+-- event's own. A law about events goes by these pairs.
+-- Assumes nothing.
+use mathlib.Core.Bool.{true}
+use mathlib.Core.Path.{_≡_}
 use Prim.Native.Nat.{ℕ, _<_, _^_}
 use lib.Dec.{lit<}
 use lib.Pow.{pow-lt}
-use Rattle.model.specs.Events.{pm1, eventBit, eventMask}
+use Rattle.bits.specs.Cell.{within}
+use Rattle.platform.specs.Cells.{statusCells}
+use Rattle.platform.specs.declared.settings.Settings.{Settings}
+use Rattle.model.specs.Events.{StatusBit, pm1, gpe, eventBit, pm1Mask, eventMask}
+use Rattle.model.specs.Kinds.{Kind, kindOf}
+use Rattle.model.specs.Kinds as kind
 use Rattle.model.specs.declared.Event.{Event}
 use Rattle.model.specs.declared.Event.the-variants as event
+use Rattle.model.proofs.Fitted.{bm-within, gbl-within}
 
-pub event-cases : (P : Event → Type 0) → ((e : Event) (i : ℕ) → i < 16 → eventBit e ≡ pm1 i → P e) → ((k : ℕ) → P (event.General k)) → (e : Event) → P e
-event-cases P by-pm1 general event.Press = by-pm1 event.Press _ (lit< tt) refl
-event-cases P by-pm1 general event.Release = by-pm1 event.Release _ (lit< tt) refl
-event-cases P by-pm1 general event.SleepPress = by-pm1 event.SleepPress _ (lit< tt) refl
-event-cases P by-pm1 general event.Alarm = by-pm1 event.Alarm _ (lit< tt) refl
-event-cases P by-pm1 general event.PcieWake = by-pm1 event.PcieWake _ (lit< tt) refl
-event-cases P by-pm1 general event.BusMaster = by-pm1 event.BusMaster _ (lit< tt) refl
-event-cases P by-pm1 general event.Unlock = by-pm1 event.Unlock _ (lit< tt) refl
-event-cases P by-pm1 general (event.General k) = general k
-event-cases P by-pm1 general (event.Ticks n) = by-pm1 (event.Ticks n) _ (lit< tt) refl
+abbrev pub AlwaysFitted : ℕ → Type 0
+AlwaysFitted i = (s : Settings) → within (statusCells s) (2 ^ i) ≡ true
 
--- its bit lies in the register
+pub data Pair : StatusBit → Kind → Type 0 where
+  press : Pair (pm1 8) kind.press
+  release : Pair (pm1 8) kind.release
+  signal : (i : ℕ) → i < 16 → Pair (pm1 i) kind.signal
+  pcie-wake : Pair (pm1 14) kind.pcieWake
+  notice : (i : ℕ) → i < 16 → AlwaysFitted i → Pair (pm1 i) kind.notice
+  general : (k : ℕ) → Pair (gpe k) (kind.general k)
+  ticks : (n : ℕ) → Pair (pm1 0) (kind.ticks n)
+
+pub pair-of : (e : Event) → Pair (eventBit e) (kindOf e)
+pair-of event.Press = press
+pair-of event.Release = release
+pair-of event.SleepPress = signal 9 (lit< tt)
+pair-of event.Alarm = signal 10 (lit< tt)
+pair-of event.PcieWake = pcie-wake
+pair-of event.BusMaster = notice 4 (lit< tt) bm-within
+pair-of event.Unlock = notice 5 (lit< tt) gbl-within
+pair-of (event.General k) = general k
+pair-of (event.Ticks n) = ticks n
+
+-- what goes by a PM1 bit, or a general event
+pub pm1-or-general : (P : StatusBit → Kind → Type 0) → ((i : ℕ) (k : Kind) → i < 16 → P (pm1 i) k) → ((k : ℕ) → P (gpe k) (kind.general k))
+    → {bit : StatusBit} {k : Kind} → Pair bit k → P bit k
+pm1-or-general P by-pm1 by-number press = by-pm1 8 kind.press (lit< tt)
+pm1-or-general P by-pm1 by-number release = by-pm1 8 kind.release (lit< tt)
+pm1-or-general P by-pm1 by-number (signal i l) = by-pm1 i kind.signal l
+pm1-or-general P by-pm1 by-number pcie-wake = by-pm1 14 kind.pcieWake (lit< tt)
+pm1-or-general P by-pm1 by-number (notice i l f) = by-pm1 i kind.notice l
+pm1-or-general P by-pm1 by-number (general k) = by-number k
+pm1-or-general P by-pm1 by-number (ticks n) = by-pm1 0 (kind.ticks n) (lit< tt)
+
+-- the bit lies in the register
 pub event-mask-lt : (e : Event) → eventMask e < 2 ^ 16
-event-mask-lt = event-cases (λ e. eventMask e < 2 ^ 16) (λ e i l p. rw p (pow-lt l)) (λ k. lit< tt)
+event-mask-lt e = pm1-or-general (λ bit k. pm1Mask bit < 2 ^ 16) (λ i k l. pow-lt l) (λ k. lit< tt) (pair-of e)

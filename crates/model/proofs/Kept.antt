@@ -36,11 +36,12 @@ use Rattle.machine.specs.declared.sleeping.WakeSource.{WakeSource}
 use Rattle.machine.specs.declared.sleeping.WakeSource.the-variants as source
 use Rattle.model.specs.Answer.{Line, firstApplying}
 use Rattle.model.specs.Bus.{leadsNowhere, completes, namedState, typAfter, armedAfter, controlled, controlWritten, gpeWritten, writeOf}
-use Rattle.model.specs.Events.{StatusBit, eventBit, pm1Mask, sourceOf, eventMask, eventSource, fitted, raised, inS5, pressOf, releaseOf, signalOf, pcieWakes, pcieWakeOf, inGpe0, inGpe1, generalRaised, generalEnabled, generalOf, clockOf, tmrRaised, timed, ticksOf, eventOf}
+use Rattle.model.specs.Events.{StatusBit, pm1, pm1Mask, sourceOf, eventMask, eventSource, fits, fitted, raised, inS5, pressOf, releaseOf, signalOf, pcieWakes, pcieWakeOf, inGpe0, inGpe1, generalRaised, generalEnabled, generalOf, clockOf, tmrRaised, timed, ticksOf, doneBy, eventOf}
 use Rattle.model.specs.Firmware.{isAcpiEnable, enablesAfter, sciEnAfter}
+use Rattle.model.specs.Kinds.{Kind}
 use Rattle.model.specs.Legal.{absentPair, stateAllowed}
 use Rattle.model.specs.Ports.{registers, placeAt, registerAt, offsetAt}
-use Rattle.model.specs.Step.{registerOf, offsetOf, unfitted, linesOf, doneOf, answerTo, accepted, after}
+use Rattle.model.specs.Step.{registerOf, offsetOf, unfitted, linesBy, linesOf, doneOf, answerTo, accepted, after}
 use Rattle.model.specs.declared.Answer.the-variants as answer
 use Rattle.model.specs.declared.Event.{Event}
 use Rattle.model.specs.declared.Event.the-variants as event
@@ -48,7 +49,9 @@ use Rattle.model.specs.declared.Register.{Register}
 use Rattle.model.specs.declared.Register.the-variants as register
 use Rattle.model.specs.declared.Step.{Step}
 use Rattle.model.specs.declared.Step.the-variants as step
-use Rattle.model.proofs.Fitted.{zero-within, or-within, part-within, shown-within, self-within, has-within, bm-within, gbl-within, tmr-within}
+use Rattle.model.proofs.EventBits.{Pair, pair-of}
+use Rattle.model.proofs.EventBits as pair
+use Rattle.model.proofs.Fitted.{zero-within, or-within, part-within, shown-within, self-within, has-within, tmr-within}
 use Rattle.model.proofs.Steps.{rowApplies, zero-exactly}
 use Rattle.model.proofs.Ticks.{ticks-closed-form}
 
@@ -138,40 +141,93 @@ abbrev pub overriddenBy : Machine → ℕ → Bool
 overriddenBy m n = overriddenIn (m .button) (m .settings .«power_override») (m .hold) n
 
 -- what a rule may assume where it changes the machine, and that the property outlasts the change
-pub record Keeps (P : Machine → Type 0) : Type 0 where
+module _ (P : Machine → Type 0) where
   -- fitted status bits are set, any are cleared
-  pub raises : (m : Machine) (bits : ℕ) → within (statusCells (m .settings)) bits ≡ true → P m → P (raised m bits)
-  pub clears : (m : Machine) (bits : ℕ) → P m → P (withEvent m (kept 16 (m .«pm1_sts») bits) (m .«pm1_en»))
+  abbrev pub KeptRaising : Type 0
+  KeptRaising = (m : Machine) (bits : ℕ) → within (statusCells (m .settings)) bits ≡ true → P m → P (raised m bits)
+
+  abbrev pub KeptClearing : Type 0
+  KeptClearing = (m : Machine) (bits : ℕ) → P m → P (withEvent m (kept 16 (m .«pm1_sts») bits) (m .«pm1_en»))
+
   -- enables are written, fitted ones alone, or cleared
-  pub enables : (m : Machine) (cells : ℕ)
+  abbrev pub KeptEnabling : Type 0
+  KeptEnabling = (m : Machine) (cells : ℕ)
       → (within (enableCells (m .settings)) (m .«pm1_en») ≡ true → within (enableCells (m .settings)) cells ≡ true)
       → P m → P (withEvent m (m .«pm1_sts») cells)
+
   -- a general event byte is written, and a general event sets its bit
-  pub bytes0 : (m : Machine) (offset written : ℕ) → offset < m .settings .gpe0 .length → P m → P (gpeWritten m false offset written)
-  pub bytes1 : (m : Machine) (offset written : ℕ) → offset < m .settings .gpe1 .length → P m → P (gpeWritten m true offset written)
-  pub general : (m : Machine) (k : ℕ) → (inGpe0 (m .settings) k || inGpe1 (m .settings) k) ≡ true → P m → P (generalRaised m k)
+  abbrev pub KeptWritingGpe0 : Type 0
+  KeptWritingGpe0 = (m : Machine) (offset written : ℕ) → offset < m .settings .gpe0 .length → P m → P (gpeWritten m false offset written)
+
+  abbrev pub KeptWritingGpe1 : Type 0
+  KeptWritingGpe1 = (m : Machine) (offset written : ℕ) → offset < m .settings .gpe1 .length → P m → P (gpeWritten m true offset written)
+
+  abbrev pub KeptByGeneral : Type 0
+  KeptByGeneral = (m : Machine) (k : ℕ) → (inGpe0 (m .settings) k || inGpe1 (m .settings) k) ≡ true → P m → P (generalRaised m k)
+
   -- a command is latched, and taken
-  pub commands : (m : Machine) (written : ℕ) → present (smiBlock (m .settings)) ≡ true → written < 256 → P m → P (withCommand m true written)
-  pub takes : (m : Machine) (sci-en : Bool) → m .«command_waits» ≡ true → P m → P (withCommand (withSciEn m sci-en) false 0)
+  abbrev pub KeptLatching : Type 0
+  KeptLatching = (m : Machine) (written : ℕ) → present (smiBlock (m .settings)) ≡ true → written < 256 → P m → P (withCommand m true written)
+
+  abbrev pub KeptTaking : Type 0
+  KeptTaking = (m : Machine) (sci-en : Bool) → m .«command_waits» ≡ true → P m → P (withCommand (withSciEn m sci-en) false 0)
+
   -- control cells are written
-  pub controls : (m : Machine) (bm-rld gbl-rls : Bool) (a b : ℕ) (armed : Bool)
+  abbrev pub KeptControlling : Type 0
+  KeptControlling = (m : Machine) (bm-rld gbl-rls : Bool) (a b : ℕ) (armed : Bool)
       → awake m ≡ true
       → (m .«slp_typ_a» < 8 → a < 8)
       → (m .«slp_typ_b» < 8 → b < 8)
       → (hasPm1bCnt (m .settings) ≡ false → b ≡ m .«slp_typ_b»)
       → (hasPm1bCnt (m .settings) ≡ false → armed ≡ true → m .armed ≡ true)
       → P m → P (withControl m bm-rld gbl-rls a b armed)
-  pub arbitrates : (m : Machine) (arb-dis : Bool) → present (m .settings .«pm2_cnt») ≡ true → P m → P (withArbDis m arb-dis)
+
+  abbrev pub KeptArbitrating : Type 0
+  KeptArbitrating = (m : Machine) (arb-dis : Bool) → present (m .settings .«pm2_cnt») ≡ true → P m → P (withArbDis m arb-dis)
+
   -- sleep and wake
-  pub sleeps : (m : Machine) (state : ℕ) → awake m ≡ true → stateAllowed (m .settings) state ≡ true → P m → P (enter m state)
-  pub wakes : (source : WakeSource) (m : Machine) → isSleeping (m .state) ≡ true → P m → P (woken source m)
+  abbrev pub KeptSleeping : Type 0
+  KeptSleeping = (m : Machine) (state : ℕ) → awake m ≡ true → stateAllowed (m .settings) state ≡ true → P m → P (enter m state)
+
+  abbrev pub KeptWaking : Type 0
+  KeptWaking = (source : WakeSource) (m : Machine) → isSleeping (m .state) ≡ true → P m → P (woken source m)
+
   -- the power button
-  pub restarts : (m : Machine) → fitted (m .settings) event.Press ≡ true → P m → P (withButton (restarted m) true 0)
-  pub presses : (m : Machine) → fitted (m .settings) event.Press ≡ true → P m → P (withButton m true 0)
-  pub releases : (m : Machine) → P m → P (releaseOf m)
+  abbrev pub KeptRestarting : Type 0
+  KeptRestarting = (m : Machine) → fitted (m .settings) event.Press ≡ true → P m → P (withButton (restarted m) true 0)
+
+  abbrev pub KeptPressing : Type 0
+  KeptPressing = (m : Machine) → fitted (m .settings) event.Press ≡ true → P m → P (withButton m true 0)
+
+  abbrev pub KeptReleasing : Type 0
+  KeptReleasing = (m : Machine) → P m → P (releaseOf m)
+
   -- ticks, and those with the override
-  pub ticks : (m : Machine) (n : ℕ) → awake m ≡ true → overriddenBy m n ≡ false → P m → P (ticked m n)
-  pub overrides : (m : Machine) (n : ℕ) → awake m ≡ true → overriddenBy m n ≡ true → P m → P (enter (ticked m n) 5)
+  abbrev pub KeptTicking : Type 0
+  KeptTicking = (m : Machine) (n : ℕ) → awake m ≡ true → overriddenBy m n ≡ false → P m → P (ticked m n)
+
+  abbrev pub KeptOverriding : Type 0
+  KeptOverriding = (m : Machine) (n : ℕ) → awake m ≡ true → overriddenBy m n ≡ true → P m → P (enter (ticked m n) 5)
+
+-- by each of them. `search` finds those that do not look at what is changed.
+pub record Keeps (P : Machine → Type 0) : Type 0 where
+  pub raises : KeptRaising P
+  pub clears : KeptClearing P
+  pub enables : KeptEnabling P
+  pub bytes0 : KeptWritingGpe0 P
+  pub bytes1 : KeptWritingGpe1 P
+  pub general : KeptByGeneral P
+  pub commands : KeptLatching P
+  pub takes : KeptTaking P
+  pub controls : KeptControlling P
+  pub arbitrates : KeptArbitrating P
+  pub sleeps : KeptSleeping P
+  pub wakes : KeptWaking P
+  pub restarts : KeptRestarting P
+  pub presses : KeptPressing P
+  pub releases : KeptReleasing P
+  pub ticks : KeptTicking P
+  pub overrides : KeptOverriding P
 
 -- one machine or the other
 pick : (P : Machine → Type 0) (t : Bool) (x y : Machine) → (t ≡ true → P x) → (t ≡ false → P y) → P (cond t x y)
@@ -224,9 +280,10 @@ passes : (m : Machine) (s : Step) → accepted (answerTo m s) ≡ true → (k : 
 passes m s e = zero-exactly m s .0 (eqb-true _ _ e)
 
 -- an accepted event that asks to be fitted is
-first-fits : (m : Machine) (e : Event) (ls : List Line) → accepted (firstApplying (unfitted m e ∷ ls) (answer.Done 0)) ≡ true → fitted (m .settings) e ≡ true
+first-fits : (m : Machine) (bit : StatusBit) (ls : List Line) → accepted (firstApplying (unfitted m bit ∷ ls) (answer.Done 0)) ≡ true
+    → fits (m .settings) (pm1Mask bit) ≡ true
 unfolding firstApplying
-first-fits m e ls = go (fitted (m .settings) e)
+first-fits m bit ls = go (fits (m .settings) (pm1Mask bit))
   where
     go : (t : Bool) → accepted (cond (not t) answer.NotFitted (firstApplying ls (answer.Done 0))) ≡ true → t ≡ true
     go true a = refl
@@ -286,18 +343,20 @@ module _ (P : Machine → Type 0) (keeps : Keeps P) where
       (λ o. keeps .raises (ticked m n) bits w (keeps .ticks m n up o p)))
       (λ e. p))
 
+  kind-kept : {bit : StatusBit} {k : Kind} → Pair bit k → (m : Machine) → accepted (firstApplying (linesBy m bit k) (answer.Done 0)) ≡ true
+      → P m → P (doneBy m bit k)
+  unfolding answerTo any
+  kind-kept pair.press m a p = press-kept m (first-fits m (pm1 8) _ a) p
+  kind-kept pair.release m a p = keeps .releases m p
+  kind-kept (pair.signal i l) m a p = signal-kept m (pm1 i) (has-within _ i (first-fits m (pm1 i) _ a)) p
+  kind-kept pair.pcie-wake m a p = pcie-kept m (has-within _ 14 (first-fits m (pm1 14) _ a)) p
+  kind-kept (pair.notice i l f) m a p = keeps .raises m (2 ^ i) (f (m .settings)) p
+  kind-kept (pair.general k) m a p = general-kept m k (not-false _ (or-left _ _ (passes m (step.Event (event.General k)) a 29))) p
+  kind-kept (pair.ticks n) m a p = ticks-kept m n p
+
   event-kept : (m : Machine) (e : Event) → accepted (answerTo m (step.Event e)) ≡ true → P m → P (eventOf m e)
-  unfolding answerTo eventOf any
-  event-kept m event.Press a p = press-kept m (first-fits m event.Press _ a) p
-  event-kept m event.Release a p = keeps .releases m p
-  event-kept m event.SleepPress a p = signal-kept m (eventBit event.SleepPress) (has-within _ 9 (first-fits m event.SleepPress _ a)) p
-  event-kept m event.Alarm a p = signal-kept m (eventBit event.Alarm) (has-within _ 10 (first-fits m event.Alarm _ a)) p
-  event-kept m event.PcieWake a p = pcie-kept m (has-within _ 14 (first-fits m event.PcieWake _ a)) p
-  event-kept m event.BusMaster a p = keeps .raises m (eventMask event.BusMaster) (bm-within (m .settings)) p
-  event-kept m event.Unlock a p = keeps .raises m (eventMask event.Unlock) (gbl-within (m .settings)) p
-  event-kept m (event.General k) a p =
-      general-kept m k (not-false _ (or-left _ _ (passes m (step.Event (event.General k)) a 29))) p
-  event-kept m (event.Ticks n) a p = ticks-kept m n p
+  unfolding answerTo eventOf
+  event-kept m e a p = kind-kept (pair-of e) m a p
 
   -- ---- writes
 

@@ -34,7 +34,7 @@ use Rattle.model.specs.Step.{after}
 use Rattle.model.specs.declared.Step.{Step}
 use Rattle.model.proofs.Bytes.{Bytes, bytes-mean, mean-bytes, no-bytes, bytes-with-bit, even-length, status-written, enable-written}
 use Rattle.model.proofs.Fitted.{zero-within, or-within, part-within, wak-within}
-use Rattle.model.proofs.Kept.{ticked, overriddenBy, Keeps, kept-by-steps}
+use Rattle.model.proofs.Kept.{ticked, overriddenBy, KeptRaising, KeptClearing, KeptEnabling, KeptLatching, KeptTaking, KeptControlling, KeptArbitrating, KeptSleeping, KeptWaking, KeptRestarting, KeptPressing, KeptReleasing, KeptTicking, KeptOverriding, Keeps, kept-by-steps}
 use Rattle.model.proofs.LinesExactly.{awake-exactly, both}
 use Rattle.model.proofs.Settings.{settings-kept}
 
@@ -59,25 +59,11 @@ Pm1 m = (statusLegal m ≡ true) × (enablesLegal m ≡ true)
 pm1-keeps : Keeps Pm1
 unfolding statusLegal enablesLegal generalRaised
 pm1-keeps =
-    record {
-      raises = λ m bits w p. (or-within (statusCells (m .settings)) (m .«pm1_sts») bits (p .0) w, p .1);
-      clears = λ m bits p. (part-within (statusCells (m .settings)) (m .«pm1_sts») _ (p .0), p .1);
-      enables = λ m cells w p. (p .0, w (p .1));
-      bytes0 = λ m offset written o p. p;
-      bytes1 = λ m offset written o p. p;
-      general = λ m k h p. p;
-      commands = λ m written s w p. p;
-      takes = λ m sci-en w p. p;
-      controls = λ m bm-rld gbl-rls a b armed up la lb nb na p. p;
-      arbitrates = λ m arb-dis s p. p;
-      sleeps = λ m state up a p. p;
-      wakes = λ source m l p. (or-within (statusCells (m .settings)) (m .«pm1_sts») wakBit (p .0) (wak-within (m .settings)), p .1);
-      restarts = λ m f p. (zero-within (statusCells (m .settings)), zero-within (enableCells (m .settings)));
-      presses = λ m f p. p;
-      releases = λ m p. p;
-      ticks = λ m n up o p. p;
-      overrides = λ m n up o p. p;
-    }
+    let raises : KeptRaising Pm1 = λ m bits w p. (or-within (statusCells (m .settings)) (m .«pm1_sts») bits (p .0) w, p .1) in
+    let clears : KeptClearing Pm1 = λ m bits p. (part-within (statusCells (m .settings)) (m .«pm1_sts») _ (p .0), p .1) in
+    let enables : KeptEnabling Pm1 = λ m cells w p. (p .0, w (p .1)) in
+    let wakes : KeptWaking Pm1 = λ source m l p. raises m wakBit (wak-within (m .settings)) p in
+    search zero-within
 
 -- ---- sleep
 
@@ -97,25 +83,8 @@ armed-written m armed up na p = only-of armed _ (λ e. both (awake m) (hasPm1bCn
 sleep-keeps : Keeps Sleep
 unfolding stateAllowed armedLegal awake generalRaised
 sleep-keeps =
-    record {
-      raises = λ m bits w p. p;
-      clears = λ m bits p. p;
-      enables = λ m cells w p. p;
-      bytes0 = λ m offset written o p. p;
-      bytes1 = λ m offset written o p. p;
-      general = λ m k h p. p;
-      commands = λ m written s w p. p;
-      takes = λ m sci-en w p. p;
-      controls = λ m bm-rld gbl-rls a b armed up la lb nb na p. (p .0, armed-written m armed up na (p .1));
-      arbitrates = λ m arb-dis s p. p;
-      sleeps = λ m state up a p. (a, refl);
-      wakes = λ source m l p. (refl, refl);
-      restarts = λ m f p. (refl, refl);
-      presses = λ m f p. p;
-      releases = λ m p. p;
-      ticks = λ m n up o p. p;
-      overrides = λ m n up o p. (refl, refl);
-    }
+    let controls : KeptControlling Sleep = λ m bm-rld gbl-rls a b armed up la lb nb na p. (p .0, armed-written m armed up na (p .1)) in
+    search
 
 -- ---- the power button
 
@@ -172,25 +141,15 @@ Button m = (buttonLegal m ≡ true) × Held m
 button-keeps : Keeps Button
 unfolding buttonLegal generalRaised
 button-keeps =
-    record {
-      raises = λ m bits w p. p;
-      clears = λ m bits p. p;
-      enables = λ m cells w p. p;
-      bytes0 = λ m offset written o p. p;
-      bytes1 = λ m offset written o p. p;
-      general = λ m k h p. p;
-      commands = λ m written s w p. p;
-      takes = λ m sci-en w p. p;
-      controls = λ m bm-rld gbl-rls a b armed up la lb nb na p. p;
-      arbitrates = λ m arb-dis s p. p;
-      sleeps = λ m state up a p. (p .0, (p .1 .0, λ o n. p .1 .1 o (awake-not-5 m up)));
-      wakes = λ source m l p. (p .0, (p .1 .0, λ o n. p .1 .1 o (light-not-5 (m .state) l)));
-      restarts = λ m f p. (f, (lit≤ tt, λ o n. lit< tt));
-      presses = λ m f p. (f, (lit≤ tt, λ o n. lit< tt));
-      releases = λ m p. (refl, p .1);
-      ticks = λ m n up o p. (p .0, (hold-at-most (m .button) (m .hold) _ (p .1 .0), λ f u. held-ticked m n o f (p .1 .1 f (awake-not-5 m up))));
-      overrides = λ m n up o p. (p .0, (hold-at-most (m .button) (m .hold) _ (p .1 .0), λ f u. absurd (u refl)));
-    }
+    let sleeps : KeptSleeping Button = λ m state up a p. (p .0, (p .1 .0, λ o n. p .1 .1 o (awake-not-5 m up))) in
+    let wakes : KeptWaking Button = λ source m l p. (p .0, (p .1 .0, λ o n. p .1 .1 o (light-not-5 (m .state) l))) in
+    let restarts : KeptRestarting Button = λ m f p. (f, (lit≤ tt, λ o n. lit< tt)) in
+    let presses : KeptPressing Button = λ m f p. (f, (lit≤ tt, λ o n. lit< tt)) in
+    let releases : KeptReleasing Button = λ m p. (refl, p .1) in
+    let ticks : KeptTicking Button
+    = λ m n up o p. (p .0, (hold-at-most (m .button) (m .hold) _ (p .1 .0), λ f u. held-ticked m n o f (p .1 .1 f (awake-not-5 m up)))) in
+    let overrides : KeptOverriding Button = λ m n up o p. (p .0, (hold-at-most (m .button) (m .hold) _ (p .1 .0), λ f u. absurd (u refl))) in
+    search
 
 -- ---- the counter
 
@@ -213,26 +172,7 @@ counter-ticked m n p =
 
 pub counter-keeps : Keeps Counter
 unfolding counterLegal generalRaised
-counter-keeps =
-    record {
-      raises = λ m bits w p. p;
-      clears = λ m bits p. p;
-      enables = λ m cells w p. p;
-      bytes0 = λ m offset written o p. p;
-      bytes1 = λ m offset written o p. p;
-      general = λ m k h p. p;
-      commands = λ m written s w p. p;
-      takes = λ m sci-en w p. p;
-      controls = λ m bm-rld gbl-rls a b armed up la lb nb na p. p;
-      arbitrates = λ m arb-dis s p. p;
-      sleeps = λ m state up a p. p;
-      wakes = λ source m l p. p;
-      restarts = λ m f p. p;
-      presses = λ m f p. p;
-      releases = λ m p. p;
-      ticks = λ m n up o p. counter-ticked m n p;
-      overrides = λ m n up o p. counter-ticked m n p;
-    }
+counter-keeps = search counter-ticked
 
 -- ---- commands
 
@@ -253,25 +193,11 @@ waits-smi m w p = go (eqb (m .settings .«smi_cmd») 0) refl
 commands-keep : Keeps Commands
 unfolding commandLegal commandByteLegal present generalRaised
 commands-keep =
-    record {
-      raises = λ m bits w p. p;
-      clears = λ m bits p. p;
-      enables = λ m cells w p. p;
-      bytes0 = λ m offset written o p. p;
-      bytes1 = λ m offset written o p. p;
-      general = λ m k h p. p;
-      commands = λ m written s w p. (rw (not-true (eqb (m .settings .«smi_cmd») 0) s) refl, rw (lt-ltb written 256 w) refl);
-      takes = λ m sci-en w p. (rw (waits-smi m w (p .0)) refl, refl);
-      controls = λ m bm-rld gbl-rls a b armed up la lb nb na p. p;
-      arbitrates = λ m arb-dis s p. p;
-      sleeps = λ m state up a p. p;
-      wakes = λ source m l p. p;
-      restarts = λ m f p. (only-of (eqb (m .settings .«smi_cmd») 0) _ (λ e. e), refl);
-      presses = λ m f p. p;
-      releases = λ m p. p;
-      ticks = λ m n up o p. p;
-      overrides = λ m n up o p. p;
-    }
+    let latches : KeptLatching Commands
+    = λ m written s w p. (rw (not-true (eqb (m .settings .«smi_cmd») 0) s) refl, rw (lt-ltb written 256 w) refl) in
+    let takes : KeptTaking Commands = λ m sci-en w p. (rw (waits-smi m w (p .0)) refl, refl) in
+    let restarts : KeptRestarting Commands = λ m f p. (only-of (eqb (m .settings .«smi_cmd») 0) _ (λ e. e), refl) in
+    search
 
 -- ---- the other control cells
 
@@ -294,25 +220,10 @@ typs-written m a b la lb p =
 control-keeps : Keeps Control
 unfolding slpTypBLegal slpTypsLegal arbDisLegal generalRaised
 control-keeps =
-    record {
-      raises = λ m bits w p. p;
-      clears = λ m bits p. p;
-      enables = λ m cells w p. p;
-      bytes0 = λ m offset written o p. p;
-      bytes1 = λ m offset written o p. p;
-      general = λ m k h p. p;
-      commands = λ m written s w p. p;
-      takes = λ m sci-en w p. p;
-      controls = λ m bm-rld gbl-rls a b armed up la lb nb na p. (typ-b-written m b nb (p .0), typs-written m a b la lb (p .1), p .2);
-      arbitrates = λ m arb-dis s p. (p .0, p .1, only-of arb-dis _ (λ e. s));
-      sleeps = λ m state up a p. p;
-      wakes = λ source m l p. p;
-      restarts = λ m f p. (or-true (not (not (hasPm1bCnt (m .settings)))), refl, refl);
-      presses = λ m f p. p;
-      releases = λ m p. p;
-      ticks = λ m n up o p. p;
-      overrides = λ m n up o p. p;
-    }
+    let controls : KeptControlling Control
+    = λ m bm-rld gbl-rls a b armed up la lb nb na p. (typ-b-written m b nb (p .0), typs-written m a b la lb (p .1), p .2) in
+    let arbitrates : KeptArbitrating Control = λ m arb-dis s p. (p .0, p .1, only-of arb-dis _ (λ e. s)) in
+    search or-true
 
 -- ---- general event bytes
 
@@ -365,25 +276,8 @@ general-bytes m k h p = go (ltb k (eventCount (m .settings .gpe0))) refl
 gpe-keeps : Keeps Gpe
 unfolding generalRaised
 gpe-keeps =
-    record {
-      raises = λ m bits w p. p;
-      clears = λ m bits p. p;
-      enables = λ m cells w p. p;
-      bytes0 = bytes0-written;
-      bytes1 = bytes1-written;
-      general = general-bytes;
-      commands = λ m written s w p. p;
-      takes = λ m sci-en w p. p;
-      controls = λ m bm-rld gbl-rls a b armed up la lb nb na p. p;
-      arbitrates = λ m arb-dis s p. p;
-      sleeps = λ m state up a p. p;
-      wakes = λ source m l p. p;
-      restarts = λ m f p. (p .0, no-bytes _, no-bytes _, no-bytes _, no-bytes _);
-      presses = λ m f p. p;
-      releases = λ m p. p;
-      ticks = λ m n up o p. p;
-      overrides = λ m n up o p. p;
-    }
+    let restarts : KeptRestarting Gpe = λ m f p. (p .0, no-bytes _, no-bytes _, no-bytes _, no-bytes _) in
+    search (bytes0-written, bytes1-written, general-bytes)
 
 -- ---- all of it
 

@@ -28,12 +28,14 @@ use Rattle.machine.specs.declared.sleeping.WakeSource.the-variants as source
 use Rattle.model.specs.Answer.{firstApplying}
 use Rattle.model.specs.Bus.{completes, namedState, controlled, controlWritten, gpeWritten, writeOf}
 use Rattle.machine.specs.Cells.{tmrBit, pwrbtnBit, wakBit, hasBit, laneAt, oneByte, placed, covered, clearable, inStatus, onesIn, statusAfter, gpeSts, inGpeStatus, gpeStsAfter}
-use Rattle.model.specs.Events.{StatusBit, pm1, gpe, eventBit, pm1Mask, sourceOf, eventMask, eventSource, fits, raised, inS5, pressOf, signalWakes, signalOf, pcieWakes, pcieWakeOf, inGpe0, inGpe1, withBit, generalRaised, generalEnabled, generalOf, clockAfter, tmrRaised, timed, ticksOf, eventOf}
+use Rattle.model.specs.Events.{StatusBit, pm1, gpe, eventBit, pm1Mask, sourceOf, eventMask, eventSource, fits, raised, inS5, pressOf, signalWakes, signalOf, pcieWakes, pcieWakeOf, inGpe0, inGpe1, withBit, generalRaised, generalEnabled, generalOf, clockAfter, tmrRaised, timed, ticksOf, doneBy, eventOf}
 use Rattle.machine.specs.Fields.{withTime, enter}
 use Rattle.machine.specs.Lines.{awake}
-use Rattle.model.specs.Raises.{Change, unchanged, clearing, raising, bitsIf, wakIf, pressChange, signalChange, pcieWakeChange, ticksChange, eventChange, wakesAtOnce, writeChange, ruleChange, ifAccepted, raises, clears, liesIn, gpeMask, isPress, gpeEventChange, gpeOnes, gpeRuleChange, gpeRaises, gpeClears}
+use Rattle.model.specs.Raises.{Change, unchanged, clearing, raising, bitsIf, wakIf, pressChange, signalChange, pcieWakeChange, ticksChange, changeBy, eventChange, wakesAtOnce, writeChange, ruleChange, ifAccepted, raises, clears, liesIn, gpeMask, isPress, gpeChangeBy, gpeEventChange, gpeOnes, gpeRuleChange, gpeRaises, gpeClears}
 use Rattle.machine.specs.Sleep.{isSleeping, pending, woken, wokenIf, completed, restarted, overridden}
-use Rattle.model.specs.Step.{registerOf, offsetOf, doneOf, answerTo, accepted, after}
+use Rattle.model.specs.Kinds.{Kind, kindOf}
+use Rattle.model.specs.Kinds as kind
+use Rattle.model.specs.Step.{registerOf, offsetOf, linesBy, doneOf, answerTo, accepted, after}
 use Rattle.model.specs.declared.Answer.the-variants as answer
 use Rattle.model.specs.declared.Event.{Event}
 use Rattle.model.specs.declared.Event.the-variants as event
@@ -41,7 +43,8 @@ use Rattle.model.specs.declared.Register.{Register}
 use Rattle.model.specs.declared.Register.the-variants as register
 use Rattle.model.specs.declared.Step.{Step}
 use Rattle.model.specs.declared.Step.the-variants as step
-use Rattle.model.proofs.EventBits.{event-cases}
+use Rattle.model.proofs.EventBits.{Pair, pair-of, pm1-or-general, event-mask-lt}
+use Rattle.model.proofs.EventBits as pair
 use Rattle.model.proofs.Ticks.{ticks-at-once}
 
 -- ---- changes
@@ -159,17 +162,14 @@ module _ (m : Machine) (h : m .«pm1_sts» < 2 ^ 16) where
   ticks-law n true false p q = rw (p, q) (only-raised 16 (m .«pm1_sts») (tmrRaised (m .settings) (clockAfter m n .turns)) h)
   ticks-law n false o p q = rw p nothing
 
-  event-law : (e : Event) → Law (eventOf m e) (eventChange m e)
-  unfolding eventOf eventChange
-  event-law event.Press = press-law (inS5 m) refl
-  event-law event.Release = nothing
-  event-law event.SleepPress = signal-law (eventBit event.SleepPress) (inS5 m) refl
-  event-law event.Alarm = signal-law (eventBit event.Alarm) (inS5 m) refl
-  event-law event.PcieWake = pcie-wake-law (isSleeping (m .state)) (hasBit (m .«pm1_en») (eventMask event.PcieWake)) refl refl
-  event-law event.BusMaster = only-raised 16 (m .«pm1_sts») (eventMask event.BusMaster) h
-  event-law event.Unlock = only-raised 16 (m .«pm1_sts») (eventMask event.Unlock) h
-  event-law (event.General k) = general-law k (inS5 m) refl
-  event-law (event.Ticks n) = ap (λ x. x .«pm1_sts») (ticks-at-once n m) ∙ ticks-law n (awake m) (clockAfter m n .off) refl refl
+  event-law : (bit : StatusBit) (k : Kind) → Law (doneBy m bit k) (changeBy m bit k)
+  event-law bit kind.press = press-law (inS5 m) refl
+  event-law bit kind.release = nothing
+  event-law bit kind.signal = signal-law bit (inS5 m) refl
+  event-law bit kind.pcieWake = pcie-wake-law (isSleeping (m .state)) (hasBit (m .«pm1_en») (eventMask event.PcieWake)) refl refl
+  event-law bit kind.notice = only-raised 16 (m .«pm1_sts») (pm1Mask bit) h
+  event-law bit (kind.general k) = general-law k (inS5 m) refl
+  event-law bit (kind.ticks n) = ap (λ x. x .«pm1_sts») (ticks-at-once n m) ∙ ticks-law n (awake m) (clockAfter m n .off) refl refl
 
   module _ (width offset written : ℕ) where
     status-write-law : (b t : Bool) → inStatus offset ≡ t
@@ -198,10 +198,10 @@ module _ (m : Machine) (h : m .«pm1_sts» < 2 ^ 16) where
     write-law register.Nowhere = nothing
 
   rule-law : (s : Step) → Law (doneOf m s) (ruleChange m s)
-  unfolding ruleChange
+  unfolding ruleChange eventOf eventChange
   rule-law (step.Read a) = nothing
   rule-law (step.Write a written) = write-law (a .width) (offsetOf m a) written (registerOf m a)
-  rule-law (step.Event e) = event-law e
+  rule-law (step.Event e) = event-law (eventBit e) (kindOf e)
   rule-law step.Take = nothing
   rule-law step.Drop = nothing
 
@@ -229,18 +229,16 @@ module _ (m : Machine) where
   unfolding signalChange
   signal-fits bit h = raising-fits 16 _ (bits-if-lt 16 (not (inS5 m)) _ (or-lt 16 bit (wakIf m (signalWakes m bit)) h (wak-lt m (signalWakes m bit))))
 
-  event-fits : (e : Event) → Fits 16 (eventChange m e)
-  unfolding eventChange pressChange pcieWakeChange ticksChange
-  event-fits event.Press = (bits-if-lt 16 (inS5 m) (2 ^ 16 - 1) (omega arith), or-lt 16 (wakIf m true) pwrbtnBit (wak-lt m true) (omega arith))
-  event-fits event.Release = unchanged-fits 16
-  event-fits event.SleepPress = signal-fits (eventMask event.SleepPress) (omega arith)
-  event-fits event.Alarm = signal-fits (eventMask event.Alarm) (omega arith)
-  event-fits event.PcieWake =
+  event-fits : (bit : StatusBit) (k : Kind) → pm1Mask bit < 2 ^ 16 → Fits 16 (changeBy m bit k)
+  unfolding pressChange pcieWakeChange ticksChange
+  event-fits bit kind.press h = (bits-if-lt 16 (inS5 m) (2 ^ 16 - 1) (omega arith), or-lt 16 (wakIf m true) pwrbtnBit (wak-lt m true) (omega arith))
+  event-fits bit kind.release h = unchanged-fits 16
+  event-fits bit kind.signal h = signal-fits (pm1Mask bit) h
+  event-fits bit kind.pcieWake h =
       raising-fits 16 _ (bits-if-lt 16 (pcieWakes m) (bitOr (eventMask event.PcieWake) wakBit) (omega arith))
-  event-fits event.BusMaster = raising-fits 16 (eventMask event.BusMaster) (omega arith)
-  event-fits event.Unlock = raising-fits 16 (eventMask event.Unlock) (omega arith)
-  event-fits (event.General k) = raising-fits 16 _ (wak-lt m (generalEnabled m k))
-  event-fits (event.Ticks n) =
+  event-fits bit kind.notice h = raising-fits 16 (pm1Mask bit) h
+  event-fits bit (kind.general k) h = raising-fits 16 _ (wak-lt m (generalEnabled m k))
+  event-fits bit (kind.ticks n) h =
       (bits-if-lt 16 (awake m && clockAfter m n .off) pwrbtnBit (omega arith), bits-if-lt 16 (awake m) _ (tmr-lt (m .settings) (clockAfter m n .turns)))
 
   write-fits : (r : Register) (width offset written : ℕ) → Fits 16 (writeChange m r width offset written)
@@ -255,10 +253,10 @@ module _ (m : Machine) where
   write-fits register.Nowhere width offset written = unchanged-fits 16
 
   rule-fits : (s : Step) → Fits 16 (ruleChange m s)
-  unfolding ruleChange
+  unfolding ruleChange eventChange
   rule-fits (step.Read a) = unchanged-fits 16
   rule-fits (step.Write a written) = write-fits (registerOf m a) (a .width) (offsetOf m a) written
-  rule-fits (step.Event e) = event-fits e
+  rule-fits (step.Event e) = event-fits (eventBit e) (kindOf e) (event-mask-lt e)
   rule-fits step.Take = unchanged-fits 16
   rule-fits step.Drop = unchanged-fits 16
 
@@ -408,13 +406,13 @@ module _ (m : Machine) (b : Bool) (i : ℕ) (h : getD (gpeSts m b) i 0 < 2 ^ 8) 
   same x e = byte-untouched m b i h (gpeSts x b) e
 
   -- an event that goes by a PM1 bit, other than a press, leaves the bytes alone
-  pm1-event-law : (e : Event) {j : ℕ} → eventBit e ≡ pm1 j → isPress e ≡ false → gpeSts (eventOf m e) b ≡ gpeSts m b
-      → GpeLaw (eventOf m e) (gpeEventChange m e b i)
-  unfolding gpeEventChange liesIn
-  pm1-event-law e p q kept = rw (p, q, and-false, and-false) (same (eventOf m e) kept)
+  pm1-event-law : (j : ℕ) (k : Kind) → isPress k ≡ false → gpeSts (doneBy m (pm1 j) k) b ≡ gpeSts m b
+      → GpeLaw (doneBy m (pm1 j) k) (gpeChangeBy m (pm1 j) k b i)
+  unfolding liesIn
+  pm1-event-law j k q kept = rw (q, and-false (inS5 m), and-false (not (inS5 m))) (same (doneBy m (pm1 j) k) kept)
 
-  gpe-press-law : (t : Bool) → inS5 m ≡ t → GpeLaw (pressOf m) (gpeEventChange m event.Press b i)
-  unfolding pressOf gpeEventChange liesIn
+  gpe-press-law : (t : Bool) → inS5 m ≡ t → GpeLaw (pressOf m) (gpeChangeBy m (pm1 8) kind.press b i)
+  unfolding pressOf liesIn
   gpe-press-law true e = rw (e, none-raised (hasByte m b i), and-zero-r) (go b)
     where
       go : (c : Bool) → getD (gpeSts (restarted m) c) i 0 ≡ 0
@@ -422,25 +420,22 @@ module _ (m : Machine) (b : Bool) (i : ℕ) (h : getD (gpeSts m b) i 0 < 2 ^ 8) 
       go false = no-byte gpeBytes i
   gpe-press-law false e = rw e (same (wokenIf (eventSource event.Press) true m) (woken-bytes b (eventSource event.Press) true m))
 
-  gpe-general-law : (k : ℕ) (t : Bool) → inS5 m ≡ t → GpeLaw (generalOf m k) (gpeEventChange m (event.General k) b i)
-  unfolding generalOf gpeEventChange
+  gpe-general-law : (k : ℕ) (t : Bool) → inS5 m ≡ t → GpeLaw (generalOf m k) (gpeChangeBy m (gpe k) (kind.general k) b i)
+  unfolding generalOf
   gpe-general-law k true e = rw e (same m refl)
   gpe-general-law k false e =
       rw e
       (ap (λ l. getD l i 0) (woken-bytes b (eventSource (event.General k)) (generalEnabled m k) (generalRaised m k))
       ∙ general-raised-byte m k b i h (inGpe0 (m .settings) k) refl)
 
-  gpe-event-law : (e : Event) → GpeLaw (eventOf m e) (gpeEventChange m e b i)
-  unfolding eventOf
-  gpe-event-law event.Press = gpe-press-law (inS5 m) refl
-  gpe-event-law event.Release = pm1-event-law event.Release refl refl refl
-  gpe-event-law event.SleepPress = pm1-event-law event.SleepPress refl refl (signal-bytes b m (eventBit event.SleepPress))
-  gpe-event-law event.Alarm = pm1-event-law event.Alarm refl refl (signal-bytes b m (eventBit event.Alarm))
-  gpe-event-law event.PcieWake = pm1-event-law event.PcieWake refl refl (pcie-wake-bytes b m)
-  gpe-event-law event.BusMaster = pm1-event-law event.BusMaster refl refl refl
-  gpe-event-law event.Unlock = pm1-event-law event.Unlock refl refl refl
-  gpe-event-law (event.General k) = gpe-general-law k (inS5 m) refl
-  gpe-event-law (event.Ticks n) = pm1-event-law (event.Ticks n) refl refl (ticks-bytes b n m)
+  gpe-event-law : {bit : StatusBit} {k : Kind} → Pair bit k → GpeLaw (doneBy m bit k) (gpeChangeBy m bit k b i)
+  gpe-event-law pair.press = gpe-press-law (inS5 m) refl
+  gpe-event-law pair.release = pm1-event-law 8 kind.release refl refl
+  gpe-event-law (pair.signal j l) = pm1-event-law j kind.signal refl (signal-bytes b m (pm1 j))
+  gpe-event-law pair.pcie-wake = pm1-event-law 14 kind.pcieWake refl (pcie-wake-bytes b m)
+  gpe-event-law (pair.notice j l f) = pm1-event-law j kind.notice refl refl
+  gpe-event-law (pair.general k) = gpe-general-law k (inS5 m) refl
+  gpe-event-law (pair.ticks n) = pm1-event-law 0 (kind.ticks n) refl (ticks-bytes b n m)
 
   gpe-write-law : (r : Register) (width offset written : ℕ) → GpeLaw (writeOf m r width offset written) (clearing (gpeOnes m r offset written b i))
   unfolding writeOf gpeOnes
@@ -453,10 +448,10 @@ module _ (m : Machine) (b : Bool) (i : ℕ) (h : getD (gpeSts m b) i 0 < 2 ^ 8) 
   gpe-write-law register.Nowhere width offset written = same m refl
 
   gpe-rule-law : (s : Step) → GpeLaw (doneOf m s) (gpeRuleChange m s b i)
-  unfolding gpeRuleChange
+  unfolding gpeRuleChange eventOf gpeEventChange
   gpe-rule-law (step.Read a) = same m refl
   gpe-rule-law (step.Write a written) = gpe-write-law (registerOf m a) (a .width) (offsetOf m a) written
-  gpe-rule-law (step.Event e) = gpe-event-law e
+  gpe-rule-law (step.Event e) = gpe-event-law (pair-of e)
   gpe-rule-law step.Take = same m refl
   gpe-rule-law step.Drop = same m refl
 
@@ -486,7 +481,7 @@ module _ (m : Machine) (b : Bool) (i : ℕ) where
   gpe-event-fits : (e : Event) → Fits 8 (gpeEventChange m e b i)
   unfolding gpeEventChange
   gpe-event-fits e = (
-    bits-if-lt 8 (inS5 m && isPress e) (2 ^ 8 - 1) (omega arith),
+    bits-if-lt 8 (inS5 m && isPress (kindOf e)) (2 ^ 8 - 1) (omega arith),
     bits-if-lt 8 (not (inS5 m) && liesIn (m .settings) (eventBit e) b i) _ (gpe-mask-lt (m .settings) (eventBit e)),
   )
 
@@ -545,8 +540,12 @@ in-gpe1-lt s k e = go (leb (s .«gpe1_base») k) e
     go true e = ltb-true (k - s .«gpe1_base») (eventCount (s .gpe1)) e
     go false e = let z : _≡_ {A = ℕ} 0 1 = cc in omega arith
 
-general-accepted : (m : Machine) (k : ℕ) → accepted (answerTo m (step.Event (event.General k))) ≡ (inGpe0 (m .settings) k || inGpe1 (m .settings) k)
-unfolding answerTo firstApplying
+-- an event is accepted, by its bit and its kind
+abbrev acceptedBy : Machine → StatusBit → Kind → Bool
+acceptedBy m bit k = accepted (firstApplying (linesBy m bit k) (answer.Done 0))
+
+general-accepted : (m : Machine) (k : ℕ) → acceptedBy m (gpe k) (kind.general k) ≡ (inGpe0 (m .settings) k || inGpe1 (m .settings) k)
+unfolding firstApplying
 general-accepted m k = go (inGpe0 (m .settings) k || inGpe1 (m .settings) k)
   where
     go : (t : Bool) → accepted (cond (not t) answer.NoSuchEvent (answer.Done 0)) ≡ t
@@ -577,16 +576,14 @@ none-past m s bits = go (accepted (answerTo m s))
 
 event-past : (m : Machine) (b : Bool) (i : ℕ) → eventCount (gpeBlock (m .settings) b) ≤ 8 * i → (e : Event)
     → ifAccepted m (step.Event e) (gpeEventChange m e b i) .raised ≡ 0
-unfolding gpeEventChange liesIn
-event-past m b i r =
-    event-cases (λ e. ifAccepted m (step.Event e) (gpeEventChange m e b i) .raised ≡ 0)
-    (λ e j l p. no-bits (accepted (answerTo m (step.Event e))) (not (inS5 m)) _ _ _ (rw p (none (accepted (answerTo m (step.Event e))) j)))
+unfolding answerTo gpeEventChange liesIn
+event-past m b i r e =
+    pm1-or-general (λ bit k. cond (acceptedBy m bit k) (gpeChangeBy m bit k b i) unchanged .raised ≡ 0)
+    (λ j k l. no-bits (acceptedBy m (pm1 j) k) (not (inS5 m)) _ _ _ (and-false (acceptedBy m (pm1 j) k)))
     (λ k. rw (general-accepted m k)
     (no-bits (inGpe0 (m .settings) k || inGpe1 (m .settings) k) (not (inS5 m)) _ _ _
     (none-lies (m .settings) k b i r (inGpe0 (m .settings) k) (inGpe1 (m .settings) k) refl refl)))
-  where
-    none : (t : Bool) (j : ℕ) → (t && liesIn (m .settings) (pm1 j) b i) ≡ false
-    none t j = and-false t
+    (pair-of e)
 
 pub gpe-raises-past : (m : Machine) (s : Step) (b : Bool) (i : ℕ) → eventCount (gpeBlock (m .settings) b) ≤ 8 * i → gpeRaises m s b i ≡ 0
 unfolding gpeRaises gpeRuleChange

@@ -2,7 +2,7 @@
 -- Assumes nothing.
 use mathlib.Core.Bool.{Bool, true, false, cond}
 use mathlib.Core.List.{List}
-use mathlib.Core.Path.{_≡_, refl, _∙_}
+use mathlib.Core.Path.{_≡_, _∙_}
 use Prim.Native.Nat.{ℕ}
 use lib.ListN.{length, length-set}
 use Rattle.machine.specs.Cells.{gpeSts, inGpeStatus, gpeStsAfter}
@@ -11,7 +11,7 @@ use Rattle.machine.specs.declared.Machine.{Machine}
 use Rattle.model.specs.Events.{inGpe0, generalRaised}
 use Rattle.model.specs.Step.{after}
 use Rattle.model.specs.declared.Step.{Step}
-use Rattle.model.proofs.Kept.{Keeps, kept-by-steps}
+use Rattle.model.proofs.Kept.{KeptWritingGpe0, KeptWritingGpe1, Keeps, kept-by-steps}
 
 -- each block has its status bytes
 abbrev pub Sized : Machine → Type 0
@@ -40,25 +40,9 @@ general-length m k s =
 
 sizes-keep : Keeps Sized
 sizes-keep =
-    record {
-      raises = λ m bits w p. p;
-      clears = λ m bits p. p;
-      enables = λ m cells w p. p;
-      bytes0 = λ m offset written o p. (write-length m false offset written p, p .1);
-      bytes1 = λ m offset written o p. (p .0, write-length m true offset written p);
-      general = λ m k h p. general-length m k p;
-      commands = λ m written s w p. p;
-      takes = λ m sci-en w p. p;
-      controls = λ m bm-rld gbl-rls a b armed up la lb nb na p. p;
-      arbitrates = λ m arb-dis s p. p;
-      sleeps = λ m state up a p. p;
-      wakes = λ source m l p. p;
-      restarts = λ m f p. (refl, refl);
-      presses = λ m f p. p;
-      releases = λ m p. p;
-      ticks = λ m n up o p. p;
-      overrides = λ m n up o p. p;
-    }
+    let bytes0 : KeptWritingGpe0 Sized = λ m offset written o p. (write-length m false offset written p, p .1) in
+    let bytes1 : KeptWritingGpe1 Sized = λ m offset written o p. (p .0, write-length m true offset written p) in
+    search general-length
 
 pub sized-kept : (m : Machine) (x : Step) → Sized m → Sized (after m x)
 sized-kept m x s = kept-by-steps Sized sizes-keep m x s

@@ -14,13 +14,13 @@ use Rattle.lists.proofs.Tests.{and-left, and-right}
 use Rattle.bits.proofs.Digits.{below-or-beyond}
 use Rattle.machine.specs.declared.Machine.{Machine}
 use Rattle.model.specs.Answer.{numberOf, valueOf, Line, firstApplying}
-use Rattle.model.specs.Step.{eventLines, linesOf, doneValue, doneOf, answerTo, accepted, after}
+use Rattle.model.specs.Events.{StatusBit, eventBit}
+use Rattle.model.specs.Kinds.{Kind, kindOf}
+use Rattle.model.specs.Kinds as kind
+use Rattle.model.specs.Step.{linesBy, linesOf, doneValue, doneOf, answerTo, accepted, after}
 use Rattle.model.specs.declared.Access.{Access}
 use Rattle.model.specs.declared.Answer.{Answer}
 use Rattle.model.specs.declared.Answer.the-variants as answer
-use Rattle.model.specs.declared.Event.{Event}
-use Rattle.model.specs.declared.Event.the-variants as event
-use Rattle.model.specs.declared.Register.the-variants as register
 use Rattle.model.specs.declared.Step.{Step}
 use Rattle.model.specs.declared.Step.the-variants as step
 use Rattle.model.proofs.Ticks.{cond-same}
@@ -176,22 +176,20 @@ module _ (last : Answer) where
 
 -- ---- which number is given
 
-events-rise : (m : Machine) (e : Event) → rising 0 (eventLines m e) ≡ true
-events-rise m event.Press = refl
-events-rise m event.Release = refl
-events-rise m event.SleepPress = refl
-events-rise m event.Alarm = refl
-events-rise m event.PcieWake = refl
-events-rise m event.BusMaster = refl
-events-rise m event.Unlock = refl
-events-rise m (event.General k) = refl
-events-rise m (event.Ticks n) = refl
+events-rise : (m : Machine) (bit : StatusBit) (k : Kind) → rising 0 (linesBy m bit k) ≡ true
+events-rise m bit kind.press = refl
+events-rise m bit kind.release = refl
+events-rise m bit kind.signal = refl
+events-rise m bit kind.pcieWake = refl
+events-rise m bit kind.notice = refl
+events-rise m bit (kind.general k) = refl
+events-rise m bit (kind.ticks n) = refl
 
 -- the lines stand in the order of their numbers
 pub lines-rise : (m : Machine) (s : Step) → rising 0 (linesOf m s) ≡ true
 lines-rise m (step.Read a) = refl
 lines-rise m (step.Write a written) = refl
-lines-rise m (step.Event e) = events-rise m e
+lines-rise m (step.Event e) = events-rise m (eventBit e) (kindOf e)
 lines-rise m step.Take = refl
 lines-rise m step.Drop = refl
 

@@ -17,6 +17,8 @@ use Rattle.machine.specs.Lines.{awake}
 use Rattle.machine.specs.Sleep.{isSleeping, wakeBits, wokenIf, restarted, overridden}
 use Rattle.machine.specs.declared.sleeping.WakeSource.{WakeSource}
 use Rattle.machine.specs.declared.sleeping.WakeSource.the-variants as source
+use Rattle.model.specs.Kinds.{Kind, kindOf}
+use Rattle.model.specs.Kinds as kind
 use Rattle.model.specs.declared.Event.{Event}
 use Rattle.model.specs.declared.Event.the-variants as event
 
@@ -168,14 +170,15 @@ ticksOf (suc n) m = ticksOf n (tickedOnce m)
 
 -- ---- all of them
 
--- what an accepted event does
+-- what an accepted event does, by its bit and its kind
+abbrev pub doneBy : Machine → StatusBit → Kind → Machine
+doneBy m bit kind.press = pressOf m
+doneBy m bit kind.release = releaseOf m
+doneBy m bit kind.signal = signalOf m bit
+doneBy m bit kind.pcieWake = pcieWakeOf m
+doneBy m bit kind.notice = raised m (pm1Mask bit)
+doneBy m bit (kind.general k) = generalOf m k
+doneBy m bit (kind.ticks n) = ticksOf n m
+
 unfoldable pub eventOf : Machine → Event → Machine
-eventOf m event.Press = pressOf m
-eventOf m event.Release = releaseOf m
-eventOf m event.SleepPress = signalOf m (eventBit event.SleepPress)
-eventOf m event.Alarm = signalOf m (eventBit event.Alarm)
-eventOf m event.PcieWake = pcieWakeOf m
-eventOf m event.BusMaster = raised m (eventMask event.BusMaster)
-eventOf m event.Unlock = raised m (eventMask event.Unlock)
-eventOf m (event.General k) = generalOf m k
-eventOf m (event.Ticks n) = ticksOf n m
+eventOf m e = doneBy m (eventBit e) (kindOf e)

@@ -8,7 +8,9 @@ use Rattle.platform.specs.declared.settings.Settings.{Settings}
 use Rattle.machine.specs.declared.Machine.{Machine}
 use Rattle.model.specs.Bus.{completes, namedState}
 use Rattle.machine.specs.Cells.{pwrbtnBit, wakBit, inStatus, onesIn, inGpeStatus}
-use Rattle.model.specs.Events.{StatusBit, pm1, gpe, eventBit, eventMask, inS5, signalWakes, pcieWakes, inGpe0, numberIn, generalEnabled, clockAfter, tmrRaised}
+use Rattle.model.specs.Events.{StatusBit, pm1, gpe, eventBit, pm1Mask, eventMask, inS5, signalWakes, pcieWakes, inGpe0, numberIn, generalEnabled, clockAfter, tmrRaised}
+use Rattle.model.specs.Kinds.{Kind, kindOf}
+use Rattle.model.specs.Kinds as kind
 use Rattle.machine.specs.Lines.{awake}
 use Rattle.machine.specs.Sleep.{isSleeping, pending}
 use Rattle.model.specs.Step.{registerOf, offsetOf, answerTo, accepted}
@@ -64,16 +66,17 @@ ticksChange m n =
     }
 
 -- "bus-master, unlock (global lock released) .. set their bits"; a general event that wakes sets WAK
+abbrev pub changeBy : Machine → StatusBit → Kind → Change
+changeBy m bit kind.press = pressChange m
+changeBy m bit kind.release = unchanged
+changeBy m bit kind.signal = signalChange m (pm1Mask bit)
+changeBy m bit kind.pcieWake = pcieWakeChange m
+changeBy m bit kind.notice = raising (pm1Mask bit)
+changeBy m bit (kind.general k) = raising (wakIf m (generalEnabled m k))
+changeBy m bit (kind.ticks n) = ticksChange m n
+
 unfoldable pub eventChange : Machine → Event → Change
-eventChange m event.Press = pressChange m
-eventChange m event.Release = unchanged
-eventChange m event.SleepPress = signalChange m (eventMask event.SleepPress)
-eventChange m event.Alarm = signalChange m (eventMask event.Alarm)
-eventChange m event.PcieWake = pcieWakeChange m
-eventChange m event.BusMaster = raising (eventMask event.BusMaster)
-eventChange m event.Unlock = raising (eventMask event.Unlock)
-eventChange m (event.General k) = raising (wakIf m (generalEnabled m k))
-eventChange m (event.Ticks n) = ticksChange m n
+eventChange m e = changeBy m (eventBit e) (kindOf e)
 
 -- "If on completing S1 to S4 .. already set, the machine wakes in the same step."
 unfoldable pub wakesAtOnce : Machine → Bool → ℕ → ℕ → ℕ → Bool
@@ -124,24 +127,25 @@ gpeMask s (pm1 j) = 0
 gpeMask s (gpe k) = 2 ^ (numberIn s k % 8)
 
 -- the event is a press
-abbrev pub isPress : Event → Bool
-isPress event.Press = true
-isPress event.Release = false
-isPress event.SleepPress = false
-isPress event.Alarm = false
-isPress event.PcieWake = false
-isPress event.BusMaster = false
-isPress event.Unlock = false
-isPress (event.General k) = false
-isPress (event.Ticks n) = false
+abbrev pub isPress : Kind → Bool
+isPress kind.press = true
+isPress kind.release = false
+isPress kind.signal = false
+isPress kind.pcieWake = false
+isPress kind.notice = false
+isPress (kind.general k) = false
+isPress (kind.ticks n) = false
 
 -- "From S5 only a press wakes: all .. GPE cells .. zero"; "general events set their bits"; "In S5 .. other accepted events change nothing"
-unfoldable pub gpeEventChange : Machine → Event → Bool → ℕ → Change
-gpeEventChange m e b i =
+abbrev pub gpeChangeBy : Machine → StatusBit → Kind → Bool → ℕ → Change
+gpeChangeBy m bit kind b i =
     record {
-      cleared = bitsIf (inS5 m && isPress e) (2 ^ 8 - 1);
-      raised = bitsIf (not (inS5 m) && liesIn (m .settings) (eventBit e) b i) (gpeMask (m .settings) (eventBit e));
+      cleared = bitsIf (inS5 m && isPress kind) (2 ^ 8 - 1);
+      raised = bitsIf (not (inS5 m) && liesIn (m .settings) bit b i) (gpeMask (m .settings) bit);
     }
+
+unfoldable pub gpeEventChange : Machine → Event → Bool → ℕ → Change
+gpeEventChange m e b i = gpeChangeBy m (eventBit e) (kindOf e) b i
 
 -- "GPE: status bytes, .. the same rules": the ones written to byte i of the block
 unfoldable pub gpeOnes : Machine → Register → ℕ → ℕ → Bool → ℕ → ℕ

@@ -6,15 +6,16 @@ use lib.Dec.{eqb}
 use Rattle.machine.specs.declared.Machine.{Machine}
 use Rattle.model.specs.Answer.{numberOf, Line, _if_, firstApplying}
 use Rattle.model.specs.Bus.{wrongWidth, dataTooWide, leadsNowhere, allowed, isTimer, commandLost, namesNone, readOf, writeOf}
-use Rattle.model.specs.Events.{fitted, inGpe0, inGpe1, eventOf}
+use Rattle.model.specs.Events.{StatusBit, eventBit, pm1Mask, fits, inGpe0, inGpe1, eventOf}
 use Rattle.model.specs.Firmware.{takeOf, dropOf}
+use Rattle.model.specs.Kinds.{Kind, kindOf}
+use Rattle.model.specs.Kinds as kind
 use Rattle.machine.specs.Lines.{awake}
 use Rattle.model.specs.Ports.{registerAt, offsetAt}
 use Rattle.model.specs.declared.Access.{Access}
 use Rattle.model.specs.declared.Answer.{Answer}
 use Rattle.model.specs.declared.Answer.the-variants as answer
 use Rattle.model.specs.declared.Event.{Event}
-use Rattle.model.specs.declared.Event.the-variants as event
 use Rattle.model.specs.declared.Register.{Register}
 use Rattle.model.specs.declared.Step.{Step}
 use Rattle.model.specs.declared.Step.the-variants as step
@@ -56,20 +57,21 @@ writeLines m r width offset written =
     []
 
 -- 28: "what a press, release, sleep press, alarm or PCIe wake belongs to is not fitted"
-abbrev pub unfitted : Machine → Event → Line
-unfitted m e = answer.NotFitted if not (fitted (m .settings) e)
+abbrev pub unfitted : Machine → StatusBit → Line
+unfitted m bit = answer.NotFitted if not (fits (m .settings) (pm1Mask bit))
 
--- 28, then 30: "press while down, release while up"; 29: "a general event number belongs to no block"
+-- 28, then 30: "press while down, release while up"; 20: "bus-master, unlock .. outside S0"; 29: "a general event number belongs to no block"
+abbrev pub linesBy : Machine → StatusBit → Kind → List Line
+linesBy m bit kind.press = unfitted m bit ∷ answer.ButtonAlready if m .button ∷ []
+linesBy m bit kind.release = unfitted m bit ∷ answer.ButtonAlready if not (m .button) ∷ []
+linesBy m bit kind.signal = unfitted m bit ∷ []
+linesBy m bit kind.pcieWake = unfitted m bit ∷ []
+linesBy m bit kind.notice = answer.Asleep if not (awake m) ∷ []
+linesBy m bit (kind.general k) = answer.NoSuchEvent if not (inGpe0 (m .settings) k || inGpe1 (m .settings) k) ∷ []
+linesBy m bit (kind.ticks n) = []
+
 abbrev pub eventLines : Machine → Event → List Line
-eventLines m event.Press = unfitted m event.Press ∷ answer.ButtonAlready if m .button ∷ []
-eventLines m event.Release = unfitted m event.Release ∷ answer.ButtonAlready if not (m .button) ∷ []
-eventLines m event.SleepPress = unfitted m event.SleepPress ∷ []
-eventLines m event.Alarm = unfitted m event.Alarm ∷ []
-eventLines m event.PcieWake = unfitted m event.PcieWake ∷ []
-eventLines m event.BusMaster = answer.Asleep if not (awake m) ∷ []
-eventLines m event.Unlock = answer.Asleep if not (awake m) ∷ []
-eventLines m (event.General k) = answer.NoSuchEvent if not (inGpe0 (m .settings) k || inGpe1 (m .settings) k) ∷ []
-eventLines m (event.Ticks n) = []
+eventLines m e = linesBy m (eventBit e) (kindOf e)
 
 -- 20: "asleep: a bus access, bus-master, unlock or firmware step outside S0"; 31: "firmware takes with no command waiting"
 abbrev pub linesOf : Machine → Step → List Line

@@ -32,12 +32,12 @@ quietly a mask gpe0 gpe1 =
       gpe1 = gpe1;
     }
 
-pub record Quiet (s : Settings) (e : Event) : Type 0 where
+pub record Quiet (e : Effect) : Type 0 where
   pub answer : Answer
   pub mask : ℕ
   pub gpe0 : List ℕ → List ℕ
   pub gpe1 : List ℕ → List ℕ
-  pub is : effectOf s e ≡ quietly answer mask gpe0 gpe1
+  pub is : e ≡ quietly answer mask gpe0 gpe1
 
 -- no general event
 pub record GpeKept (s : Settings) (e : Event) : Type 0 where
@@ -55,8 +55,8 @@ effects-commute m a k f g e p q =
 
 -- one of the two is quiet, and the other no general event
 pub data Apart (s : Settings) (g b : Event) : Type 0 where
-  quiet-first : Quiet s g → GpeKept s b → Apart s g b
-  quiet-second : GpeKept s g → Quiet s b → Apart s g b
+  quiet-first : Quiet (effectOf s g) → GpeKept s b → Apart s g b
+  quiet-second : GpeKept s g → Quiet (effectOf s b) → Apart s g b
 
 -- what the two orders share, from what each event does to each machine on the way
 module _ (m : Machine) (g b : Event) where

@@ -1,7 +1,8 @@
 -- What an event does to an awake machine that it leaves awake: it raises status bits, and changes the button, hold, the counter and the
--- general status bytes, each by what stands there and in the settings alone. By cases over the events. Assumes nothing.
+-- general status bytes, each by what stands there and in the settings alone. By the event's bit and kind. Assumes nothing.
 use mathlib.Core.Bool.{Bool, true, false, not, cond, _&&_, _||_}
 use mathlib.Core.List.{List}
+use mathlib.Core.Logic.{_⊎_, inl, inr, ⊎-elim}
 use mathlib.Core.Path.{_≡_, refl, sym, _∙_, ap}
 use Prim.Native.Nat.{ℕ}
 use native.Mathlib.Omega.{arith}
@@ -15,17 +16,20 @@ use Rattle.platform.specs.declared.settings.Settings.{Settings}
 use Rattle.machine.specs.declared.Machine.{Machine}
 use Rattle.model.specs.Answer.{firstApplying}
 use Rattle.machine.specs.Cells.{tmrBit}
-use Rattle.model.specs.Events.{StatusBit, pm1, gpe, eventBit, pm1Mask, eventMask, fits, fitted, raised, pressOf, signalOf, pcieWakeOf, generalOf, generalRaised, inGpe0, inGpe1, withBit, numberIn, inS5, tmrRaised, timed, ticksOf, eventOf}
+use Rattle.model.specs.Events.{StatusBit, pm1, gpe, eventBit, pm1Mask, fits, raised, pressOf, signalOf, pcieWakeOf, generalOf, generalRaised, inGpe0, inGpe1, withBit, numberIn, inS5, tmrRaised, timed, ticksOf, doneBy, eventOf}
 use Rattle.machine.specs.Fields.{withGpe, withButton, withTime}
 use Rattle.machine.specs.Lines.{awake}
 use Rattle.machine.specs.Sleep.{isSleeping}
 use Rattle.model.specs.Raises.{bitsIf}
-use Rattle.model.specs.Step.{answerTo, after}
+use Rattle.model.specs.Kinds.{Kind, kindOf}
+use Rattle.model.specs.Kinds as kind
+use Rattle.model.specs.Step.{linesBy, answerTo, accepted, after}
+use Rattle.model.proofs.EventBits.{Pair, pair-of}
+use Rattle.model.proofs.EventBits as pair
 use Rattle.model.proofs.Ticks.{ticks-awake}
 use Rattle.model.specs.declared.Answer.{Answer}
 use Rattle.model.specs.declared.Answer.the-variants as answer
 use Rattle.model.specs.declared.Event.{Event}
-use Rattle.model.specs.declared.Event.the-variants as event
 use Rattle.model.specs.declared.Step.the-variants as step
 
 -- an event's effect, as a function of the button, hold and the counter, and of the general status bytes
@@ -74,35 +78,37 @@ quiet a sets =
       off = λ b h c. false;
     }
 
-abbrev fittedAnswer : Settings → Event → Answer
-fittedAnswer s e = cond (not (fitted s e)) answer.NotFitted (answer.Done 0)
+-- the bit is fitted
+abbrev isFitted : Settings → StatusBit → Bool
+isFitted s bit = fits s (pm1Mask bit)
 
-abbrev pub liveOf : Settings → Event → Live
-liveOf s event.Press =
+abbrev fittedAnswer : Settings → StatusBit → Answer
+fittedAnswer s bit = cond (not (isFitted s bit)) answer.NotFitted (answer.Done 0)
+
+abbrev pub liveOf : Settings → StatusBit → Kind → Live
+liveOf s bit kind.press =
     record {
-      answer = λ b. cond (not (fitted s event.Press)) answer.NotFitted (cond b answer.ButtonAlready (answer.Done 0));
-      sets = λ b h c. fitted s event.Press && not b;
-      button = λ b. fitted s event.Press || b;
-      hold = λ b h c. cond (fitted s event.Press && not b) 0 h;
+      answer = λ b. cond (not (isFitted s bit)) answer.NotFitted (cond b answer.ButtonAlready (answer.Done 0));
+      sets = λ b h c. isFitted s bit && not b;
+      button = λ b. isFitted s bit || b;
+      hold = λ b h c. cond (isFitted s bit && not b) 0 h;
       counter = λ b h c. c;
       off = λ b h c. false;
     }
-liveOf s event.Release =
+liveOf s bit kind.release =
     record {
-      answer = λ b. cond (not (fitted s event.Release)) answer.NotFitted (cond (not b) answer.ButtonAlready (answer.Done 0));
+      answer = λ b. cond (not (isFitted s bit)) answer.NotFitted (cond (not b) answer.ButtonAlready (answer.Done 0));
       sets = λ b h c. false;
-      button = λ b. not (fitted s event.Release) && b;
+      button = λ b. not (isFitted s bit) && b;
       hold = λ b h c. h;
       counter = λ b h c. c;
       off = λ b h c. false;
     }
-liveOf s event.SleepPress = quiet (fittedAnswer s event.SleepPress) (fitted s event.SleepPress)
-liveOf s event.Alarm = quiet (fittedAnswer s event.Alarm) (fitted s event.Alarm)
-liveOf s event.PcieWake = quiet (fittedAnswer s event.PcieWake) false
-liveOf s event.BusMaster = quiet (answer.Done 0) true
-liveOf s event.Unlock = quiet (answer.Done 0) true
-liveOf s (event.General k) = quiet (cond (not (inGpe0 s k || inGpe1 s k)) answer.NoSuchEvent (answer.Done 0)) false
-liveOf s (event.Ticks n) =
+liveOf s bit kind.signal = quiet (fittedAnswer s bit) (isFitted s bit)
+liveOf s bit kind.pcieWake = quiet (fittedAnswer s bit) false
+liveOf s bit kind.notice = quiet (answer.Done 0) true
+liveOf s bit (kind.general k) = quiet (cond (not (inGpe0 s k || inGpe1 s k)) answer.NoSuchEvent (answer.Done 0)) false
+liveOf s bit (kind.ticks n) =
     record {
       answer = λ b. answer.Done 0;
       sets = λ b h c. fits s tmrBit && not (eqb (clockTicks s n b h c .turns) 0);
@@ -121,147 +127,155 @@ abbrev pub gpe1After : Settings → StatusBit → List ℕ → List ℕ
 gpe1After s (pm1 i) xs = xs
 gpe1After s (gpe k) xs = cond ((inGpe0 s k || inGpe1 s k) && not (inGpe0 s k)) (withBit xs (numberIn s k)) xs
 
-unfoldable pub effectOf : Settings → Event → Effect
-effectOf s e =
+abbrev pub effectBy : Settings → StatusBit → Kind → Effect
+effectBy s bit k =
     record {
-      answer = liveOf s e .answer;
-      mask = λ b h c. bitsIf (liveOf s e .sets b h c) (eventMask e);
-      button = liveOf s e .button;
-      hold = liveOf s e .hold;
-      counter = liveOf s e .counter;
-      off = liveOf s e .off;
-      gpe0 = λ xs. gpe0After s (eventBit e) xs;
-      gpe1 = λ xs. gpe1After s (eventBit e) xs;
+      answer = liveOf s bit k .answer;
+      mask = λ b h c. bitsIf (liveOf s bit k .sets b h c) (pm1Mask bit);
+      button = liveOf s bit k .button;
+      hold = liveOf s bit k .hold;
+      counter = liveOf s bit k .counter;
+      off = liveOf s bit k .off;
+      gpe0 = λ xs. gpe0After s bit xs;
+      gpe1 = λ xs. gpe1After s bit xs;
     }
 
--- ---- each event
+unfoldable pub effectOf : Settings → Event → Effect
+effectOf s e = effectBy s (eventBit e) (kindOf e)
 
--- the claim for one event
-abbrev pub Affects : Machine → Event → Type 0
-Affects m e =
-    (answerTo m (step.Event e) ≡ effectOf (m .settings) e .answer (m .button)) × (after m (step.Event e) ≡ affected (effectOf (m .settings) e) m)
+-- ---- each kind
 
-press-affects : (m : Machine) → m .state ≡ 0 → Affects m event.Press
-unfolding effectOf answerTo after firstApplying eventOf pressOf inS5 isSleeping
-press-affects m z = go (fitted (m .settings) event.Press) (m .button) refl refl
+-- the answer to an event, and the machine after it, by its bit and its kind
+abbrev answerBy : Machine → StatusBit → Kind → Answer
+answerBy m bit k = firstApplying (linesBy m bit k) (answer.Done 0)
+
+abbrev afterBy : Machine → StatusBit → Kind → Machine
+afterBy m bit k = cond (accepted (answerBy m bit k)) (doneBy m bit k) m
+
+-- the claim for one of them
+abbrev AffectsBy : Machine → StatusBit → Kind → Type 0
+AffectsBy m bit k =
+    (answerBy m bit k ≡ effectBy (m .settings) bit k .answer (m .button)) × (afterBy m bit k ≡ affected (effectBy (m .settings) bit k) m)
+
+press-affects : (m : Machine) → m .state ≡ 0 → AffectsBy m (pm1 8) kind.press
+unfolding firstApplying pressOf inS5 isSleeping
+press-affects m z = go (isFitted (m .settings) (pm1 8)) (m .button) refl refl
   where
-    go : (f b : Bool) → fitted (m .settings) event.Press ≡ f → m .button ≡ b → Affects m event.Press
+    go : (f b : Bool) → isFitted (m .settings) (pm1 8) ≡ f → m .button ≡ b → AffectsBy m (pm1 8) kind.press
     go false b p q = rw (p, or-zero-r (m .«pm1_sts»)) (refl, refl)
     go true true p q = rw (p, q, or-zero-r (m .«pm1_sts»)) (refl, refl)
     go true false p q = rw (p, q, z) (refl, refl)
 
-release-affects : (m : Machine) → Affects m event.Release
-unfolding effectOf answerTo after firstApplying eventOf
-release-affects m = go (fitted (m .settings) event.Release) (m .button) refl refl
+release-affects : (m : Machine) → AffectsBy m (pm1 8) kind.release
+unfolding firstApplying
+release-affects m = go (isFitted (m .settings) (pm1 8)) (m .button) refl refl
   where
-    go : (f b : Bool) → fitted (m .settings) event.Release ≡ f → m .button ≡ b → Affects m event.Release
+    go : (f b : Bool) → isFitted (m .settings) (pm1 8) ≡ f → m .button ≡ b → AffectsBy m (pm1 8) kind.release
     go false b p q = rw (p, or-zero-r (m .«pm1_sts»)) (refl, refl)
     go true true p q = rw (p, q, or-zero-r (m .«pm1_sts»)) (refl, refl)
     go true false p q = rw (p, q, or-zero-r (m .«pm1_sts»)) (refl, refl)
 
--- a sleep press or alarm awake: its bit, where it is fitted
+-- a signal awake: its bit, where it is fitted
 signal-done : (m : Machine) (bit : StatusBit) → m .state ≡ 0 → signalOf m bit ≡ raised m (pm1Mask bit)
 unfolding signalOf inS5 isSleeping
 signal-done m bit z = rw z refl
 
-sleep-press-affects : (m : Machine) → m .state ≡ 0 → Affects m event.SleepPress
-unfolding effectOf answerTo after firstApplying eventOf
-sleep-press-affects m z = go (fitted (m .settings) event.SleepPress) refl
+signal-affects : (m : Machine) (i : ℕ) → m .state ≡ 0 → AffectsBy m (pm1 i) kind.signal
+unfolding firstApplying
+signal-affects m i z = go (isFitted (m .settings) (pm1 i)) refl
   where
-    go : (f : Bool) → fitted (m .settings) event.SleepPress ≡ f → Affects m event.SleepPress
+    go : (f : Bool) → isFitted (m .settings) (pm1 i) ≡ f → AffectsBy m (pm1 i) kind.signal
     go false p = rw (p, or-zero-r (m .«pm1_sts»)) (refl, refl)
-    go true p = rw (p, signal-done m (eventBit event.SleepPress) z) (refl, refl)
+    go true p = rw (p, signal-done m (pm1 i) z) (refl, refl)
 
-alarm-affects : (m : Machine) → m .state ≡ 0 → Affects m event.Alarm
-unfolding effectOf answerTo after firstApplying eventOf
-alarm-affects m z = go (fitted (m .settings) event.Alarm) refl
+pcie-wake-affects : (m : Machine) → m .state ≡ 0 → AffectsBy m (pm1 14) kind.pcieWake
+unfolding firstApplying pcieWakeOf isSleeping
+pcie-wake-affects m z = go (isFitted (m .settings) (pm1 14)) refl
   where
-    go : (f : Bool) → fitted (m .settings) event.Alarm ≡ f → Affects m event.Alarm
-    go false p = rw (p, or-zero-r (m .«pm1_sts»)) (refl, refl)
-    go true p = rw (p, signal-done m (eventBit event.Alarm) z) (refl, refl)
-
-pcie-wake-affects : (m : Machine) → m .state ≡ 0 → Affects m event.PcieWake
-unfolding effectOf answerTo after firstApplying eventOf pcieWakeOf isSleeping
-pcie-wake-affects m z = go (fitted (m .settings) event.PcieWake) refl
-  where
-    go : (f : Bool) → fitted (m .settings) event.PcieWake ≡ f → Affects m event.PcieWake
+    go : (f : Bool) → isFitted (m .settings) (pm1 14) ≡ f → AffectsBy m (pm1 14) kind.pcieWake
     go false p = rw (p, or-zero-r (m .«pm1_sts»)) (refl, refl)
     go true p = rw (p, or-zero-r (m .«pm1_sts»), z) (refl, refl)
 
-bus-master-affects : (m : Machine) → m .state ≡ 0 → Affects m event.BusMaster
-unfolding effectOf answerTo after firstApplying eventOf awake
-bus-master-affects m z = rw z (refl, refl)
+notice-affects : (m : Machine) (i : ℕ) → m .state ≡ 0 → AffectsBy m (pm1 i) kind.notice
+unfolding firstApplying awake
+notice-affects m i z = rw z (refl, refl)
 
-unlock-affects : (m : Machine) → m .state ≡ 0 → Affects m event.Unlock
-unfolding effectOf answerTo after firstApplying eventOf awake
-unlock-affects m z = rw z (refl, refl)
-
-general-affects : (m : Machine) (k : ℕ) → m .state ≡ 0 → Affects m (event.General k)
-unfolding effectOf answerTo after firstApplying eventOf generalOf generalRaised inS5 isSleeping
+general-affects : (m : Machine) (k : ℕ) → m .state ≡ 0 → AffectsBy m (gpe k) (kind.general k)
+unfolding firstApplying generalOf generalRaised inS5 isSleeping
 general-affects m k z = go (inGpe0 (m .settings) k) (inGpe1 (m .settings) k) refl refl
   where
-    go : (f g : Bool) → inGpe0 (m .settings) k ≡ f → inGpe1 (m .settings) k ≡ g → Affects m (event.General k)
+    go : (f g : Bool) → inGpe0 (m .settings) k ≡ f → inGpe1 (m .settings) k ≡ g → AffectsBy m (gpe k) (kind.general k)
     go true g p q = rw (p, or-zero-r (m .«pm1_sts»), z) (refl, refl)
     go false true p q = rw (p, q, or-zero-r (m .«pm1_sts»), z) (refl, refl)
     go false false p q = rw (p, q, or-zero-r (m .«pm1_sts»)) (refl, refl)
 
 -- ---- ticks
 
-five-zero : _≡_ {A = ℕ} 5 0 → ⊥
-five-zero e = omega arith
-
 awake-here : (m : Machine) → m .state ≡ 0 → awake m ≡ true
 unfolding awake
 awake-here m z = rw z refl
 
-ticks-affects : (m : Machine) (n : ℕ) → m .state ≡ 0 → clockTicks (m .settings) n (m .button) (m .hold) (m .counter) .off ≡ false → Affects m (event.Ticks n)
-unfolding effectOf answerTo after firstApplying eventOf timed tmrRaised
-ticks-affects m n z on = (refl, ticks-awake n m (awake-here m z) ∙ rw on refl)
+module _ (m : Machine) (n : ℕ) (z : m .state ≡ 0) where
+  abbrev runOut : Bool
+  runOut = clockTicks (m .settings) n (m .button) (m .hold) (m .counter) .off
 
--- ticks that leave the machine awake bring no override
-ticks-stay-on : (m : Machine) (n : ℕ) → m .state ≡ 0 → after m (step.Event (event.Ticks n)) .state ≡ 0
-    → clockTicks (m .settings) n (m .button) (m .hold) (m .counter) .off ≡ false
-unfolding after answerTo firstApplying eventOf timed
-ticks-stay-on m n z e = go (clockTicks (m .settings) n (m .button) (m .hold) (m .counter) .off) refl
-  where
-    go : (t : Bool) → clockTicks (m .settings) n (m .button) (m .hold) (m .counter) .off ≡ t
-        → clockTicks (m .settings) n (m .button) (m .hold) (m .counter) .off ≡ false
-    go false p = p
-    go true p =
-        let five : ticksOf n m .state ≡ 5 = ap (λ (k : Machine). k .state) (ticks-awake n m (awake-here m z)) ∙ rw p refl in
-        absurd (five-zero (sym five ∙ e))
+  ticks-affects : runOut ≡ false → AffectsBy m (pm1 0) (kind.ticks n)
+  unfolding firstApplying timed tmrRaised
+  ticks-affects on = (refl, ticks-awake n m (awake-here m z) ∙ rw on refl)
+
+  -- ticks bring no override, or end in S5
+  ticks-on-or-off : (runOut ≡ false) ⊎ (afterBy m (pm1 0) (kind.ticks n) .state ≡ 5)
+  unfolding firstApplying timed
+  ticks-on-or-off = go runOut refl
+    where
+      go : (t : Bool) → runOut ≡ t → (runOut ≡ false) ⊎ (ticksOf n m .state ≡ 5)
+      go false p = inl p
+      go true p = inr (ap (λ (k : Machine). k .state) (ticks-awake n m (awake-here m z)) ∙ rw p refl)
 
 -- ---- all events
 
 -- nothing is off but a clock
+abbrev pub OnBy : Machine → StatusBit → Kind → Type 0
+OnBy m bit k = effectBy (m .settings) bit k .off (m .button) (m .hold) (m .counter) ≡ false
+
 abbrev pub On : Machine → Event → Type 0
 On m e = effectOf (m .settings) e .off (m .button) (m .hold) (m .counter) ≡ false
 
+kind-affects : {bit : StatusBit} {k : Kind} → Pair bit k → (m : Machine) → m .state ≡ 0 → OnBy m bit k → AffectsBy m bit k
+kind-affects pair.press m z on = press-affects m z
+kind-affects pair.release m z on = release-affects m
+kind-affects (pair.signal i l) m z on = signal-affects m i z
+kind-affects pair.pcie-wake m z on = pcie-wake-affects m z
+kind-affects (pair.notice i l f) m z on = notice-affects m i z
+kind-affects (pair.general k) m z on = general-affects m k z
+kind-affects (pair.ticks n) m z on = ticks-affects m n z on
+
+-- the claim for one event
+abbrev pub Affects : Machine → Event → Type 0
+Affects m e =
+    (answerTo m (step.Event e) ≡ effectOf (m .settings) e .answer (m .button)) × (after m (step.Event e) ≡ affected (effectOf (m .settings) e) m)
+
 pub event-affects : (m : Machine) (e : Event) → m .state ≡ 0 → On m e → Affects m e
-unfolding effectOf
-event-affects m event.Press z on = press-affects m z
-event-affects m event.Release z on = release-affects m
-event-affects m event.SleepPress z on = sleep-press-affects m z
-event-affects m event.Alarm z on = alarm-affects m z
-event-affects m event.PcieWake z on = pcie-wake-affects m z
-event-affects m event.BusMaster z on = bus-master-affects m z
-event-affects m event.Unlock z on = unlock-affects m z
-event-affects m (event.General k) z on = general-affects m k z
-event-affects m (event.Ticks n) z on = ticks-affects m n z on
+unfolding effectOf answerTo after eventOf
+event-affects m e z on = kind-affects (pair-of e) m z on
 
--- an event that turns nothing off, or ticks
-pub on-or-ticks : (P : Event → Type 0) → ((e : Event) → ((m : Machine) → On m e) → P e) → ((n : ℕ) → P (event.Ticks n)) → (e : Event) → P e
-unfolding effectOf
-on-or-ticks P on ticks event.Press = on event.Press (λ m. refl)
-on-or-ticks P on ticks event.Release = on event.Release (λ m. refl)
-on-or-ticks P on ticks event.SleepPress = on event.SleepPress (λ m. refl)
-on-or-ticks P on ticks event.Alarm = on event.Alarm (λ m. refl)
-on-or-ticks P on ticks event.PcieWake = on event.PcieWake (λ m. refl)
-on-or-ticks P on ticks event.BusMaster = on event.BusMaster (λ m. refl)
-on-or-ticks P on ticks event.Unlock = on event.Unlock (λ m. refl)
-on-or-ticks P on ticks (event.General k) = on (event.General k) (λ m. refl)
-on-or-ticks P on ticks (event.Ticks n) = ticks n
+kind-on-or-off : {bit : StatusBit} {k : Kind} → Pair bit k → (m : Machine) → m .state ≡ 0 → OnBy m bit k ⊎ (afterBy m bit k .state ≡ 5)
+kind-on-or-off pair.press m z = inl refl
+kind-on-or-off pair.release m z = inl refl
+kind-on-or-off (pair.signal i l) m z = inl refl
+kind-on-or-off pair.pcie-wake m z = inl refl
+kind-on-or-off (pair.notice i l f) m z = inl refl
+kind-on-or-off (pair.general k) m z = inl refl
+kind-on-or-off (pair.ticks n) m z = ticks-on-or-off m n z
 
+-- an event turns nothing off, or ends in S5
+pub on-or-off : (m : Machine) (e : Event) → m .state ≡ 0 → On m e ⊎ (after m (step.Event e) .state ≡ 5)
+unfolding effectOf answerTo after eventOf
+on-or-off m e z = kind-on-or-off (pair-of e) m z
+
+five-zero : _≡_ {A = ℕ} 5 0 → ⊥
+five-zero e = omega arith
+
+-- what leaves the machine awake turns nothing off
 pub event-on : (m : Machine) (e : Event) → m .state ≡ 0 → after m (step.Event e) .state ≡ 0 → On m e
-unfolding effectOf
-event-on m e z = on-or-ticks (λ x. after m (step.Event x) .state ≡ 0 → On m x) (λ x on w. on m) (λ n w. ticks-stay-on m n z w) e
+event-on m e z w = ⊎-elim (λ on. on) (λ five. absurd (five-zero (sym five ∙ w))) (on-or-off m e z)

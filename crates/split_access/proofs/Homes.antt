@@ -1,6 +1,6 @@
 -- The bits that an event raises lie in its home: outside the cells of block A where it goes before, and outside those of block B where it goes after.
 -- A bit is in the homes of just one block. Assumes nothing.
-use mathlib.Core.Bool.{Bool, true, false, not, cond, _&&_}
+use mathlib.Core.Bool.{Bool, true, false, not, cond}
 use mathlib.Core.Path.{_≡_, _∙_}
 use Prim.Native.Nat.{ℕ, _+_, _*_, _-_, _^_, _≤_, _<_}
 use native.Mathlib.Nat.{lt-of-lt-of-le}
@@ -18,9 +18,11 @@ use Rattle.platform.specs.Cells.{statusCells}
 use Rattle.platform.specs.declared.settings.Settings.{Settings}
 use Rattle.machine.specs.Cells.{hasBit, statusIn, clearable, onesIn, oneByte, covered, placed, laneAt}
 use Rattle.machine.specs.declared.Machine.{Machine}
-use Rattle.model.specs.Events.{pm1, eventMask}
+use Rattle.model.specs.Events.{pm1, eventBit, pm1Mask, eventMask}
+use Rattle.model.specs.Kinds.{kindOf}
+use Rattle.model.specs.Raises.{bitsIf}
 use Rattle.model.specs.declared.Event.{Event}
-use Rattle.model.proofs.EventBits.{event-cases, event-mask-lt}
+use Rattle.model.proofs.EventBits.{pair-of, pm1-or-general, event-mask-lt}
 use Rattle.split_access.specs.Gap.{livesInB, eventBefore}
 use Rattle.split_access.proofs.Effects.{liveOf, effectOf}
 
@@ -86,10 +88,10 @@ maskOf s e = effectOf s e .mask
 pub raises-at-home : (s : Settings) (e : Event) (b : Bool) → eventBefore s e ≡ not b → (button : Bool) (hold counter : ℕ) → bitAnd (maskOf s e button hold counter) (statusIn s b) ≡ 0
 unfolding livesInB effectOf
 raises-at-home s e b home button hold counter =
-    event-cases (λ x. eventBefore s x ≡ not b → bitAnd (maskOf s x button hold counter) (statusIn s b) ≡ 0)
-    (λ x i l p h. rw p (bit-in-home s b i l (rw p at h) (liveOf s x .sets button hold counter)))
+    pm1-or-general (λ bit k. livesInB s bit ≡ not b → bitAnd (bitsIf (liveOf s bit k .sets button hold counter) (pm1Mask bit)) (statusIn s b) ≡ 0)
+    (λ i k l h. bit-in-home s b i l h (liveOf s (pm1 i) k .sets button hold counter))
     (λ k h. and-zero-l (statusIn s b))
-    e home
+    (pair-of e) home
 
 bit-small : (t : Bool) (x : ℕ) → x < 2 ^ 16 → cond t x 0 < 2 ^ 16
 bit-small true x h = h
@@ -97,7 +99,7 @@ bit-small false x h = lit< tt
 
 pub raises-small : (s : Settings) (e : Event) (button : Bool) (hold counter : ℕ) → maskOf s e button hold counter < 2 ^ 16
 unfolding effectOf
-raises-small s e button hold counter = bit-small (liveOf s e .sets button hold counter) (eventMask e) (event-mask-lt e)
+raises-small s e button hold counter = bit-small (liveOf s (eventBit e) (kindOf e) .sets button hold counter) (eventMask e) (event-mask-lt e)
 
 -- ---- the ones of a write
 

@@ -9,25 +9,25 @@ use lib.ListN.{getD}
 use Rattle.lists.proofs.Search.{first-is}
 use Rattle.platform.specs.Blocks.{present, holds, noBlock}
 use Rattle.platform.specs.Legal.{Guaranteed, blockAt}
-use Rattle.platform.specs.Rules.{blocksOf}
+use Rattle.platform.specs.Rules.{blockCount, blocksOf}
 use Rattle.platform.specs.declared.settings.Settings.{Settings}
 use Rattle.platform.proofs.Legal.{holds-of}
 use Rattle.model.specs.Ports.{registers, placeAt, registerAt, offsetAt}
 use Rattle.model.specs.declared.Register.the-variants as register
 
 module _ (s : Settings) (legal : Guaranteed s) (offset : ℕ) where
-  place-is : (i : ℕ) → i < 9 → present (blockAt s i) ≡ true → offset < blockAt s i .length → placeAt s (blockAt s i .address + offset) ≡ i
+  place-is : (i : ℕ) → i < blockCount → present (blockAt s i) ≡ true → offset < blockAt s i .length → placeAt s (blockAt s i .address + offset) ≡ i
   place-is i h p o =
       let port = blockAt s i .address + offset in
       let inside : holds (blockAt s i) port ≡ true = holds-of (blockAt s i) port p (omega arith) (omega arith) in
       first-is noBlock (λ b. holds b port) (blocksOf s) i h inside (λ j k e. legal .one-block port j i k h e inside)
 
-  register-is : (i : ℕ) → i < 9 → present (blockAt s i) ≡ true → offset < blockAt s i .length
+  register-is : (i : ℕ) → i < blockCount → present (blockAt s i) ≡ true → offset < blockAt s i .length
       → registerAt s (blockAt s i .address + offset) ≡ getD registers i register.Nowhere
   unfolding registerAt
   register-is i h p o = rw (place-is i h p o) refl
 
-  offset-is : (i : ℕ) → i < 9 → present (blockAt s i) ≡ true → offset < blockAt s i .length → offsetAt s (blockAt s i .address + offset) ≡ offset
+  offset-is : (i : ℕ) → i < blockCount → present (blockAt s i) ≡ true → offset < blockAt s i .length → offsetAt s (blockAt s i .address + offset) ≡ offset
   unfolding offsetAt
   offset-is i h p o = rw (place-is i h p o) (omega arith)
 

@@ -1,7 +1,6 @@
 -- Two events of one gap that go to different sides: not both are live, so that they may change places.
 -- Presses and releases have one home, ticks have one home, and no gap holds both kinds. Assumes nothing.
-use mathlib.Core.Bool.{Bool, true, false, _&&_}
-use mathlib.Core.List.{List}
+use mathlib.Core.Bool.{Bool, true, false, not, _&&_}
 use mathlib.Core.Path.{_≡_, refl, sym, _∙_, ap}
 use Prim.Native.Nat.{ℕ}
 use native.Mathlib.Omega.{arith}
@@ -12,12 +11,15 @@ use Rattle.clock.specs.Clock as clock
 use Rattle.platform.specs.declared.settings.Settings.{Settings}
 use Rattle.machine.specs.Cells.{tmrBit}
 use Rattle.model.specs.Events.{StatusBit, pm1, gpe, eventBit, fits}
+use Rattle.model.specs.Kinds.{Kind}
+use Rattle.model.specs.Kinds as kind
 use Rattle.model.specs.Raises.{bitsIf}
 use Rattle.model.specs.declared.Answer.the-variants as answer
 use Rattle.model.specs.declared.Event.{Event}
-use Rattle.model.specs.declared.Event.the-variants as event
-use Rattle.split_access.specs.Gap.{livesInB, eventBefore, isPm1Bit, isButton, isTicking}
-use Rattle.split_access.proofs.Effects.{gpe0After, gpe1After, effectOf}
+use Rattle.model.proofs.EventBits.{Pair, pair-of}
+use Rattle.model.proofs.EventBits as pair
+use Rattle.split_access.specs.Gap.{livesInB, eventBefore, isPm1Bit, isButton, ticksIn, isTicking}
+use Rattle.split_access.proofs.Effects.{gpe0After, gpe1After, effectBy, effectOf}
 use Rattle.split_access.proofs.Commute.{Quiet, GpeKept, Apart, quiet-first, quiet-second}
 
 zero-one : _≡_ {A = ℕ} 0 1 → ⊥
@@ -28,23 +30,25 @@ true-false e = let z : _≡_ {A = ℕ} 0 1 = cc in absurd (zero-one z)
 
 -- ---- quiet events
 
-ticks-none : (s : Settings) (n : ℕ) → n ≡ 0 → Quiet s (event.Ticks n)
-unfolding clock.ticksOf effectOf
+ticks-none : (s : Settings) (n : ℕ) → n ≡ 0 → Quiet (effectBy s (pm1 0) (kind.ticks n))
+unfolding clock.ticksOf
 ticks-none s n e =
     record { answer = answer.Done 0; mask = bitsIf (fits s tmrBit && false) tmrBit; gpe0 = λ xs. xs; gpe1 = λ xs. xs; is = rw e refl }
 
 -- neither a button nor ticks
-quiet-event : (s : Settings) (e : Event) → isButton e ≡ false → isTicking e ≡ false → Quiet s e
+quiet-kind : (s : Settings) {bit : StatusBit} {k : Kind} → Pair bit k → isPm1Bit 8 bit ≡ false → (isPm1Bit 0 bit && not (eqb (ticksIn k) 0)) ≡ false
+    → Quiet (effectBy s bit k)
+quiet-kind s pair.press p q = true-false p
+quiet-kind s pair.release p q = true-false p
+quiet-kind s (pair.signal i l) p q = record { answer = _; mask = _; gpe0 = _; gpe1 = _; is = refl }
+quiet-kind s pair.pcie-wake p q = record { answer = _; mask = _; gpe0 = _; gpe1 = _; is = refl }
+quiet-kind s (pair.notice i l f) p q = record { answer = _; mask = _; gpe0 = _; gpe1 = _; is = refl }
+quiet-kind s (pair.general k) p q = record { answer = _; mask = _; gpe0 = _; gpe1 = _; is = refl }
+quiet-kind s (pair.ticks n) p q = ticks-none s n (eqb-true n 0 (not-false (eqb n 0) q))
+
+quiet-event : (s : Settings) (e : Event) → isButton e ≡ false → isTicking e ≡ false → Quiet (effectOf s e)
 unfolding effectOf
-quiet-event s event.Press p q = true-false p
-quiet-event s event.Release p q = true-false p
-quiet-event s event.SleepPress p q = record { answer = _; mask = _; gpe0 = _; gpe1 = _; is = refl }
-quiet-event s event.Alarm p q = record { answer = _; mask = _; gpe0 = _; gpe1 = _; is = refl }
-quiet-event s event.PcieWake p q = record { answer = _; mask = _; gpe0 = _; gpe1 = _; is = refl }
-quiet-event s event.BusMaster p q = record { answer = _; mask = _; gpe0 = _; gpe1 = _; is = refl }
-quiet-event s event.Unlock p q = record { answer = _; mask = _; gpe0 = _; gpe1 = _; is = refl }
-quiet-event s (event.General k) p q = record { answer = _; mask = _; gpe0 = _; gpe1 = _; is = refl }
-quiet-event s (event.Ticks n) p q = ticks-none s n (eqb-true n 0 (not-false (eqb n 0) q))
+quiet-event s e p q = quiet-kind s (pair-of e) p q
 
 -- ---- the events that go by a PM1 bit
 

@@ -1,25 +1,22 @@
 -- A step that leaves a machine asleep that was awake found nothing pending. Only a control write that completes enters one of S1 to S4, and it looks first:
 -- with a bit pending it ends in S0 again. Every other step keeps S0, or by the override enters S5. Assumes nothing.
 use mathlib.Core.Bool.{Bool, true, false, cond, _&&_, false≢true}
+use mathlib.Core.Logic.{⊎-elim}
 use mathlib.Core.Path.{_≡_, refl, sym, _∙_, ap}
 use Prim.Native.Nat.{ℕ}
-use Rattle.clock.specs.AtOnce.{overridden}
 use Rattle.machine.specs.SetUp.{setUpOf}
 use Rattle.machine.specs.Sleep.{isSleeping, pending, completed}
 use Rattle.machine.specs.declared.Machine.{Machine}
 use Rattle.model.specs.Bus.{completes, namedState, controlled, controlWritten, writeOf}
 use Rattle.model.specs.Step.{registerOf, offsetOf, answerTo, accepted, doneOf, after, stepOf}
 use Rattle.model.specs.declared.Event.{Event}
-use Rattle.model.specs.declared.Event.the-variants as event
 use Rattle.model.specs.declared.Register.{Register}
 use Rattle.model.specs.declared.Register.the-variants as register
 use Rattle.model.specs.declared.Step.{Step}
 use Rattle.model.specs.declared.Step.the-variants as step
-use Rattle.model.proofs.LinesExactly.{awake-exactly}
-use Rattle.model.proofs.Readings.{ticks-done}
-use Rattle.model.proofs.Ticks.{cond-ap, ticks-state}
+use Rattle.model.proofs.Ticks.{cond-ap}
 use Rattle.split_access.specs.WakesAtOnce.{WakesAtOnceFrom, WakesAtOnce}
-use Rattle.split_access.proofs.Effects.{On, event-affects, on-or-ticks}
+use Rattle.split_access.proofs.Effects.{On, event-affects, on-or-off}
 
 -- from m, if the state is one of S1 to S4, nothing is pending for it
 abbrev Rests : Machine → ℕ → Type 0
@@ -87,17 +84,8 @@ module _ (m : Machine) (z : m .state ≡ 0) where
   kept-rests : (e : Event) → On m e → Rests m (after m (step.Event e) .state)
   kept-rests e on = zero-rests m _ (ap (λ (k : Machine). k .state) (event-affects m e z on .1) ∙ z)
 
-  ticks-rest : (n : ℕ) → Rests m (after m (step.Event (event.Ticks n)) .state)
-  ticks-rest n =
-      rw (ticks-done m n, ticks-state n m (awake-exactly m .1 z))
-      (go (overridden (m .button) (m .settings .«power_override») (m .hold) n))
-    where
-      go : (t : Bool) → Rests m (cond t 5 0)
-      go true = five-rests m
-      go false = zero-rests m 0 refl
-
   event-rests : (e : Event) → Rests m (after m (step.Event e) .state)
-  event-rests = on-or-ticks (λ e. Rests m (after m (step.Event e) .state)) (λ e on. kept-rests e (on m)) ticks-rest
+  event-rests e = ⊎-elim (kept-rests e) (λ five. rw five (five-rests m)) (on-or-off m e z)
 
   -- ---- every step
 

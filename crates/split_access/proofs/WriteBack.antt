@@ -25,12 +25,13 @@ use Rattle.machine.specs.SetUp.{setUpOf}
 use Rattle.machine.specs.declared.Machine.{Machine}
 use Rattle.machine.proofs.Accepted.{accepted-guaranteed, accepted-machine}
 use Rattle.fadt.specs.Fields.{settingsOf}
-use Rattle.model.specs.Events.{pm1, inS5}
-use Rattle.model.specs.Raises.{Change, unchanged, bitsIf, pressChange, signalChange, pcieWakeChange, ticksChange, eventChange, ruleChange, writeChange, raises, clears, gpeEventChange, gpeOnes, gpeRuleChange, gpeRaises, gpeClears}
+use Rattle.model.specs.Events.{StatusBit, pm1, eventBit, inS5}
+use Rattle.model.specs.Kinds.{Kind, kindOf}
+use Rattle.model.specs.Kinds as kind
+use Rattle.model.specs.Raises.{Change, unchanged, bitsIf, pressChange, signalChange, pcieWakeChange, ticksChange, changeBy, eventChange, ruleChange, writeChange, raises, clears, gpeEventChange, gpeOnes, gpeRuleChange, gpeRaises, gpeClears}
 use Rattle.model.specs.Step.{answerTo, after, accepted, stepOf, registerOf, offsetOf}
 use Rattle.model.specs.declared.Access.{Access}
 use Rattle.model.specs.declared.Event.{Event}
-use Rattle.model.specs.declared.Event.the-variants as event
 use Rattle.model.specs.declared.Register.the-variants as register
 use Rattle.model.specs.declared.Step.{Step}
 use Rattle.model.specs.declared.Step.the-variants as step
@@ -40,7 +41,7 @@ use Rattle.model.proofs.Settings.{settings-kept}
 use Rattle.split_access.specs.Start.{InS0}
 use Rattle.split_access.specs.Gap.{livesInB}
 use Rattle.split_access.specs.Claims.{accessAt, GapStep, gap-step}
-use Rattle.split_access.proofs.Effects.{effectOf, On, event-on}
+use Rattle.split_access.proofs.Effects.{effectOf, OnBy, On, event-on}
 use Rattle.split_access.proofs.Homes.{home-digit}
 use Rattle.split_access.proofs.Leads.{event-a, event-b, offset-a, offset-b}
 use Rattle.split_access.proofs.Moves.{all-kept}
@@ -151,17 +152,19 @@ unfolding inS5
 not-in-s5 m z = rw z refl
 
 -- a gap step of a machine that stays awake clears no PM1 bit
+kind-change-none : (m : Machine) (bit : StatusBit) (k : Kind) → m .state ≡ 0 → OnBy m bit k → changeBy m bit k .cleared ≡ 0
+unfolding pressChange signalChange pcieWakeChange ticksChange
+kind-change-none m bit kind.press z on = rw (not-in-s5 m z) refl
+kind-change-none m bit kind.release z on = refl
+kind-change-none m bit kind.signal z on = refl
+kind-change-none m bit kind.pcieWake z on = refl
+kind-change-none m bit kind.notice z on = refl
+kind-change-none m bit (kind.general k) z on = refl
+kind-change-none m bit (kind.ticks n) z on = rw (on, and-false (awake m)) refl
+
 event-change-none : (m : Machine) (e : Event) → m .state ≡ 0 → On m e → eventChange m e .cleared ≡ 0
-unfolding effectOf eventChange pressChange signalChange pcieWakeChange ticksChange
-event-change-none m event.Press z on = rw (not-in-s5 m z) refl
-event-change-none m event.Release z on = refl
-event-change-none m event.SleepPress z on = refl
-event-change-none m event.Alarm z on = refl
-event-change-none m event.PcieWake z on = refl
-event-change-none m event.BusMaster z on = refl
-event-change-none m event.Unlock z on = refl
-event-change-none m (event.General k) z on = refl
-event-change-none m (event.Ticks n) z on = rw (on, and-false (awake m)) refl
+unfolding effectOf eventChange
+event-change-none m e z on = kind-change-none m (eventBit e) (kindOf e) z on
 
 -- a gap step of a machine that is awake clears no general bit
 gpe-change-none : (m : Machine) (e : Event) (b : Bool) (i : ℕ) → m .state ≡ 0 → gpeEventChange m e b i .cleared ≡ 0

@@ -5,8 +5,9 @@ use lib.Dec.{eqb}
 use Rattle.platform.specs.declared.settings.Settings.{Settings}
 use Rattle.machine.specs.Cells.{hasBit}
 use Rattle.model.specs.Events.{StatusBit, pm1, gpe, eventBit}
+use Rattle.model.specs.Kinds.{Kind, kindOf}
+use Rattle.model.specs.Kinds as kind
 use Rattle.model.specs.declared.Event.{Event}
-use Rattle.model.specs.declared.Event.the-variants as event
 use Rattle.model.specs.declared.Step.{Step}
 use Rattle.model.specs.declared.Step.the-variants as step
 
@@ -40,17 +41,15 @@ abbrev pub isButton : Event → Bool
 isButton e = isPm1Bit 8 (eventBit e)
 
 -- how many ticks the event is
-abbrev pub ticksIn : Event → ℕ
-ticksIn event.Press = 0
-ticksIn event.Release = 0
-ticksIn event.SleepPress = 0
-ticksIn event.Alarm = 0
-ticksIn event.PcieWake = 0
-ticksIn event.BusMaster = 0
-ticksIn event.Unlock = 0
-ticksIn (event.General k) = 0
-ticksIn (event.Ticks n) = n
+abbrev pub ticksIn : Kind → ℕ
+ticksIn kind.press = 0
+ticksIn kind.release = 0
+ticksIn kind.signal = 0
+ticksIn kind.pcieWake = 0
+ticksIn kind.notice = 0
+ticksIn (kind.general k) = 0
+ticksIn (kind.ticks n) = n
 
 -- "ticks (n above zero)"
 abbrev pub isTicking : Event → Bool
-isTicking e = isPm1Bit 0 (eventBit e) && not (eqb (ticksIn e) 0)
+isTicking e = isPm1Bit 0 (eventBit e) && not (eqb (ticksIn (kindOf e)) 0)

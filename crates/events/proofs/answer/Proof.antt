@@ -1,5 +1,3 @@
--- `events::answer` meets its contract: each arm gives the first line that applies of the definition's lines for that event. Assumes nothing.
-use Rattle.model.specs.Answer.{firstApplying}
 use Rattle.model.specs.Step.{answerTo}
 use borrow.Author.Needs.{needs}
 use Rattle.events.proofs.answer.Statement.{statement}
@@ -56,6 +54,9 @@ general-answer-requires c κs = search needs
 enum-told-8 : tie.Need-enum-told-8
 enum-told-8 c = search needs
 
+ticks-answer-requires : tie.Need-ticks-answer-requires
+ticks-answer-requires c κs = search needs
+
 returns : tie.Need-returns
 unfolding answerTo
 returns c = simp (c .button-answer .ensures, c .before .enum-told .given .1)
@@ -89,8 +90,8 @@ unfolding answerTo
 returns-8 c = simp (c .general-answer .ensures, c .before .before .e .given .1)
 
 returns-9 : tie.Need-returns-9
-unfolding answerTo firstApplying
-returns-9 c = simp (c .enum-told8 .given .1)
+unfolding answerTo
+returns-9 c = simp (c .ticks-answer .ensures, c .before .enum-told8 .given .1)
 
 pub answer-spec : {M : Type 1} → statement M
 answer-spec =
@@ -113,6 +114,7 @@ answer-spec =
     enum-known-e
     general-answer-requires
     enum-told-8
+    ticks-answer-requires
     returns
     returns-2
     returns-3

@@ -1,4 +1,3 @@
--- `firmware::take_answer` meets its contract: it gives the first line that applies, 20 and then 31. Assumes nothing.
 use mathlib.Core.Path.{sym, _∙_}
 use Rattle.model.specs.Answer.{firstApplying}
 use Rattle.model.specs.Step.{answerTo}
@@ -9,12 +8,12 @@ use Rattle.firmware.proofs.take_answer.Tie as tie
 awake-requires : tie.Need-awake-requires
 awake-requires c κs = search needs
 
-cast-t6 : tie.Need-cast-t6
-cast-t6 c = search needs
+wide-requires : tie.Need-wide-requires
+wide-requires c κs = search needs
 
 returns : tie.Need-returns
 unfolding answerTo firstApplying
-returns c = simp (c .before .if2 .taken, sym (c .before .before .before .awake .ensures) ∙ c .before .before .if1 .taken)
+returns c = simp (c .wide .ensures, c .before .if2 .taken, sym (c .before .before .before .awake .ensures) ∙ c .before .before .if1 .taken)
 
 returns-2 : tie.Need-returns-2
 unfolding answerTo firstApplying
@@ -25,4 +24,4 @@ unfolding answerTo firstApplying
 returns-3 c = simp (sym (c .before .awake .ensures) ∙ c .if1 .left)
 
 pub take-answer-spec : {M : Type 1} → statement M
-take-answer-spec = tie.close (tie.spec awake-requires cast-t6 returns returns-2 returns-3)
+take-answer-spec = tie.close (tie.spec awake-requires wide-requires returns returns-2 returns-3)

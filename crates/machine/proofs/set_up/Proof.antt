@@ -8,16 +8,11 @@ settings-requires c κs = search needs
 judge-requires : tie.Need-judge-requires
 judge-requires c κs = search needs
 
-number-requires : tie.Need-number-requires
-number-requires c κs = search needs
-
 machine-for-requires : tie.Need-machine-for-requires
 machine-for-requires c κs = search needs
 
 returns : tie.Need-returns
-returns c = simp (c .machine-for .ensures, c .before .number .ensures, c .before .before .judge .ensures, c .before .before .before .settings .ensures)
+returns c = simp (c .machine-for .ensures, c .before .judge .ensures, c .before .before .settings .ensures)
 
 pub set-up-spec : {M : Type 1} → statement M
-set-up-spec =
-    tie.close
-    (tie.spec settings-requires judge-requires number-requires machine-for-requires returns)
+set-up-spec = tie.close (tie.spec settings-requires judge-requires machine-for-requires returns)
