@@ -14,8 +14,8 @@ use Rattle.machine.specs.Lines.{awake}
 use Rattle.machine.specs.declared.Machine.{Machine}
 use Rattle.model.specs.Answer.{numberOf, valueOf}
 use Rattle.model.specs.Events.{StatusBit, eventBit, clockOf, timed, doneBy, eventOf}
-use Rattle.model.specs.Kinds.{Kind, kindOf}
-use Rattle.model.specs.Kinds as kind
+use Rattle.model.specs.EventKinds.{EventKind, eventKind}
+use Rattle.model.specs.EventKinds as kind
 use Rattle.model.specs.Step.{doneOf, answerTo, accepted, after}
 use Rattle.model.specs.declared.Step.{Step}
 use Rattle.model.specs.declared.Step.the-variants as step
@@ -27,7 +27,7 @@ use Rattle.marked_cases.specs.Rows.{Expected, Registers, Row, registersO
 ticksAtOnce : ℕ → Machine → Machine
 ticksAtOnce n m = cond (awake m) (timed m (afterOf (wideTimer (m .settings)) (m .button) (m .settings .«power_override») n (clockOf m))) m
 
-eventAtOnce : Machine → StatusBit → Kind → Machine
+eventAtOnce : Machine → StatusBit → EventKind → Machine
 eventAtOnce m bit kind.press = doneBy m bit kind.press
 eventAtOnce m bit kind.release = doneBy m bit kind.release
 eventAtOnce m bit kind.signal = doneBy m bit kind.signal
@@ -36,7 +36,7 @@ eventAtOnce m bit kind.notice = doneBy m bit kind.notice
 eventAtOnce m bit (kind.general k) = doneBy m bit (kind.general k)
 eventAtOnce m bit (kind.ticks n) = ticksAtOnce n m
 
-event-at-once : (m : Machine) (bit : StatusBit) (k : Kind) → eventAtOnce m bit k ≡ doneBy m bit k
+event-at-once : (m : Machine) (bit : StatusBit) (k : EventKind) → eventAtOnce m bit k ≡ doneBy m bit k
 unfolding eventAtOnce ticksAtOnce
 event-at-once m bit kind.press = refl
 event-at-once m bit kind.release = refl
@@ -49,7 +49,7 @@ event-at-once m bit (kind.ticks n) = sym (ticks-closed-form n m)
 doneAtOnce : Machine → Step → Machine
 doneAtOnce m (step.Read a) = doneOf m (step.Read a)
 doneAtOnce m (step.Write a written) = doneOf m (step.Write a written)
-doneAtOnce m (step.Event e) = eventAtOnce m (eventBit e) (kindOf e)
+doneAtOnce m (step.Event e) = eventAtOnce m (eventBit e) (eventKind e)
 doneAtOnce m step.Take = doneOf m step.Take
 doneAtOnce m step.Drop = doneOf m step.Drop
 
@@ -57,7 +57,7 @@ done-at-once : (m : Machine) (s : Step) → doneAtOnce m s ≡ doneOf m s
 unfolding doneAtOnce eventOf
 done-at-once m (step.Read a) = refl
 done-at-once m (step.Write a written) = refl
-done-at-once m (step.Event e) = event-at-once m (eventBit e) (kindOf e)
+done-at-once m (step.Event e) = event-at-once m (eventBit e) (eventKind e)
 done-at-once m step.Take = refl
 done-at-once m step.Drop = refl
 

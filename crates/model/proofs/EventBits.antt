@@ -10,8 +10,8 @@ use Rattle.bits.specs.Cell.{within}
 use Rattle.platform.specs.Cells.{statusCells}
 use Rattle.platform.specs.declared.settings.Settings.{Settings}
 use Rattle.model.specs.Events.{StatusBit, pm1, gpe, eventBit, pm1Mask, eventMask}
-use Rattle.model.specs.Kinds.{Kind, kindOf}
-use Rattle.model.specs.Kinds as kind
+use Rattle.model.specs.EventKinds.{EventKind, eventKind}
+use Rattle.model.specs.EventKinds as kind
 use Rattle.model.specs.declared.Event.{Event}
 use Rattle.model.specs.declared.Event.the-variants as event
 use Rattle.model.proofs.Fitted.{bm-within, gbl-within}
@@ -19,7 +19,7 @@ use Rattle.model.proofs.Fitted.{bm-within, gbl-within}
 abbrev pub AlwaysFitted : ℕ → Type 0
 AlwaysFitted i = (s : Settings) → within (statusCells s) (2 ^ i) ≡ true
 
-pub data Pair : StatusBit → Kind → Type 0 where
+pub data Pair : StatusBit → EventKind → Type 0 where
   press : Pair (pm1 8) kind.press
   release : Pair (pm1 8) kind.release
   signal : (i : ℕ) → i < 16 → Pair (pm1 i) kind.signal
@@ -28,7 +28,7 @@ pub data Pair : StatusBit → Kind → Type 0 where
   general : (k : ℕ) → Pair (gpe k) (kind.general k)
   ticks : (n : ℕ) → Pair (pm1 0) (kind.ticks n)
 
-pub pair-of : (e : Event) → Pair (eventBit e) (kindOf e)
+pub pair-of : (e : Event) → Pair (eventBit e) (eventKind e)
 pair-of event.Press = press
 pair-of event.Release = release
 pair-of event.SleepPress = signal 9 (lit< tt)
@@ -40,8 +40,8 @@ pair-of (event.General k) = general k
 pair-of (event.Ticks n) = ticks n
 
 -- what goes by a PM1 bit, or a general event
-pub pm1-or-general : (P : StatusBit → Kind → Type 0) → ((i : ℕ) (k : Kind) → i < 16 → P (pm1 i) k) → ((k : ℕ) → P (gpe k) (kind.general k))
-    → {bit : StatusBit} {k : Kind} → Pair bit k → P bit k
+pub pm1-or-general : (P : StatusBit → EventKind → Type 0) → ((i : ℕ) (k : EventKind) → i < 16 → P (pm1 i) k) → ((k : ℕ) → P (gpe k) (kind.general k))
+    → {bit : StatusBit} {k : EventKind} → Pair bit k → P bit k
 pm1-or-general P by-pm1 by-number press = by-pm1 8 kind.press (lit< tt)
 pm1-or-general P by-pm1 by-number release = by-pm1 8 kind.release (lit< tt)
 pm1-or-general P by-pm1 by-number (signal i l) = by-pm1 i kind.signal l

@@ -38,7 +38,7 @@ use Rattle.model.specs.Answer.{Line, firstApplying}
 use Rattle.model.specs.Bus.{leadsNowhere, completes, namedState, typAfter, armedAfter, controlled, controlWritten, gpeWritten, writeOf}
 use Rattle.model.specs.Events.{StatusBit, pm1, pm1Mask, sourceOf, eventMask, eventSource, fits, fitted, raised, inS5, pressOf, releaseOf, signalOf, pcieWakes, pcieWakeOf, inGpe0, inGpe1, generalRaised, generalEnabled, generalOf, clockOf, tmrRaised, timed, ticksOf, doneBy, eventOf}
 use Rattle.model.specs.Firmware.{isAcpiEnable, enablesAfter, sciEnAfter}
-use Rattle.model.specs.Kinds.{Kind}
+use Rattle.model.specs.EventKinds.{EventKind}
 use Rattle.model.specs.Legal.{absentPair, stateAllowed}
 use Rattle.model.specs.Ports.{registers, placeAt, registerAt, offsetAt}
 use Rattle.model.specs.Step.{registerOf, offsetOf, unfitted, linesBy, linesOf, doneOf, answerTo, accepted, after}
@@ -343,7 +343,7 @@ module _ (P : Machine → Type 0) (keeps : Keeps P) where
       (λ o. keeps .raises (ticked m n) bits w (keeps .ticks m n up o p)))
       (λ e. p))
 
-  kind-kept : {bit : StatusBit} {k : Kind} → Pair bit k → (m : Machine) → accepted (firstApplying (linesBy m bit k) (answer.Done 0)) ≡ true
+  kind-kept : {bit : StatusBit} {k : EventKind} → Pair bit k → (m : Machine) → accepted (firstApplying (linesBy m bit k) (answer.Done 0)) ≡ true
       → P m → P (doneBy m bit k)
   unfolding answerTo any
   kind-kept pair.press m a p = press-kept m (first-fits m (pm1 8) _ a) p

@@ -33,8 +33,8 @@ use Rattle.machine.specs.Fields.{withTime, enter}
 use Rattle.machine.specs.Lines.{awake}
 use Rattle.model.specs.Raises.{Change, unchanged, clearing, raising, bitsIf, wakIf, pressChange, signalChange, pcieWakeChange, ticksChange, changeBy, eventChange, wakesAtOnce, writeChange, ruleChange, ifAccepted, raises, clears, liesIn, gpeMask, isPress, gpeChangeBy, gpeEventChange, gpeOnes, gpeRuleChange, gpeRaises, gpeClears}
 use Rattle.machine.specs.Sleep.{isSleeping, pending, woken, wokenIf, completed, restarted, overridden}
-use Rattle.model.specs.Kinds.{Kind, kindOf}
-use Rattle.model.specs.Kinds as kind
+use Rattle.model.specs.EventKinds.{EventKind, eventKind}
+use Rattle.model.specs.EventKinds as kind
 use Rattle.model.specs.Step.{registerOf, offsetOf, linesBy, doneOf, answerTo, accepted, after}
 use Rattle.model.specs.declared.Answer.the-variants as answer
 use Rattle.model.specs.declared.Event.{Event}
@@ -162,7 +162,7 @@ module _ (m : Machine) (h : m .«pm1_sts» < 2 ^ 16) where
   ticks-law n true false p q = rw (p, q) (only-raised 16 (m .«pm1_sts») (tmrRaised (m .settings) (clockAfter m n .turns)) h)
   ticks-law n false o p q = rw p nothing
 
-  event-law : (bit : StatusBit) (k : Kind) → Law (doneBy m bit k) (changeBy m bit k)
+  event-law : (bit : StatusBit) (k : EventKind) → Law (doneBy m bit k) (changeBy m bit k)
   event-law bit kind.press = press-law (inS5 m) refl
   event-law bit kind.release = nothing
   event-law bit kind.signal = signal-law bit (inS5 m) refl
@@ -201,7 +201,7 @@ module _ (m : Machine) (h : m .«pm1_sts» < 2 ^ 16) where
   unfolding ruleChange eventOf eventChange
   rule-law (step.Read a) = nothing
   rule-law (step.Write a written) = write-law (a .width) (offsetOf m a) written (registerOf m a)
-  rule-law (step.Event e) = event-law (eventBit e) (kindOf e)
+  rule-law (step.Event e) = event-law (eventBit e) (eventKind e)
   rule-law step.Take = nothing
   rule-law step.Drop = nothing
 
@@ -229,7 +229,7 @@ module _ (m : Machine) where
   unfolding signalChange
   signal-fits bit h = raising-fits 16 _ (bits-if-lt 16 (not (inS5 m)) _ (or-lt 16 bit (wakIf m (signalWakes m bit)) h (wak-lt m (signalWakes m bit))))
 
-  event-fits : (bit : StatusBit) (k : Kind) → pm1Mask bit < 2 ^ 16 → Fits 16 (changeBy m bit k)
+  event-fits : (bit : StatusBit) (k : EventKind) → pm1Mask bit < 2 ^ 16 → Fits 16 (changeBy m bit k)
   unfolding pressChange pcieWakeChange ticksChange
   event-fits bit kind.press h = (bits-if-lt 16 (inS5 m) (2 ^ 16 - 1) (omega arith), or-lt 16 (wakIf m true) pwrbtnBit (wak-lt m true) (omega arith))
   event-fits bit kind.release h = unchanged-fits 16
@@ -256,7 +256,7 @@ module _ (m : Machine) where
   unfolding ruleChange eventChange
   rule-fits (step.Read a) = unchanged-fits 16
   rule-fits (step.Write a written) = write-fits (registerOf m a) (a .width) (offsetOf m a) written
-  rule-fits (step.Event e) = event-fits (eventBit e) (kindOf e) (event-mask-lt e)
+  rule-fits (step.Event e) = event-fits (eventBit e) (eventKind e) (event-mask-lt e)
   rule-fits step.Take = unchanged-fits 16
   rule-fits step.Drop = unchanged-fits 16
 
@@ -406,7 +406,7 @@ module _ (m : Machine) (b : Bool) (i : ℕ) (h : getD (gpeSts m b) i 0 < 2 ^ 8) 
   same x e = byte-untouched m b i h (gpeSts x b) e
 
   -- an event that goes by a PM1 bit, other than a press, leaves the bytes alone
-  pm1-event-law : (j : ℕ) (k : Kind) → isPress k ≡ false → gpeSts (doneBy m (pm1 j) k) b ≡ gpeSts m b
+  pm1-event-law : (j : ℕ) (k : EventKind) → isPress k ≡ false → gpeSts (doneBy m (pm1 j) k) b ≡ gpeSts m b
       → GpeLaw (doneBy m (pm1 j) k) (gpeChangeBy m (pm1 j) k b i)
   unfolding liesIn
   pm1-event-law j k q kept = rw (q, and-false (inS5 m), and-false (not (inS5 m))) (same (doneBy m (pm1 j) k) kept)
@@ -428,7 +428,7 @@ module _ (m : Machine) (b : Bool) (i : ℕ) (h : getD (gpeSts m b) i 0 < 2 ^ 8) 
       (ap (λ l. getD l i 0) (woken-bytes b (eventSource (event.General k)) (generalEnabled m k) (generalRaised m k))
       ∙ general-raised-byte m k b i h (inGpe0 (m .settings) k) refl)
 
-  gpe-event-law : {bit : StatusBit} {k : Kind} → Pair bit k → GpeLaw (doneBy m bit k) (gpeChangeBy m bit k b i)
+  gpe-event-law : {bit : StatusBit} {k : EventKind} → Pair bit k → GpeLaw (doneBy m bit k) (gpeChangeBy m bit k b i)
   gpe-event-law pair.press = gpe-press-law (inS5 m) refl
   gpe-event-law pair.release = pm1-event-law 8 kind.release refl refl
   gpe-event-law (pair.signal j l) = pm1-event-law j kind.signal refl (signal-bytes b m (pm1 j))
@@ -481,7 +481,7 @@ module _ (m : Machine) (b : Bool) (i : ℕ) where
   gpe-event-fits : (e : Event) → Fits 8 (gpeEventChange m e b i)
   unfolding gpeEventChange
   gpe-event-fits e = (
-    bits-if-lt 8 (inS5 m && isPress (kindOf e)) (2 ^ 8 - 1) (omega arith),
+    bits-if-lt 8 (inS5 m && isPress (eventKind e)) (2 ^ 8 - 1) (omega arith),
     bits-if-lt 8 (not (inS5 m) && liesIn (m .settings) (eventBit e) b i) _ (gpe-mask-lt (m .settings) (eventBit e)),
   )
 
@@ -541,7 +541,7 @@ in-gpe1-lt s k e = go (leb (s .«gpe1_base») k) e
     go false e = let z : _≡_ {A = ℕ} 0 1 = cc in omega arith
 
 -- an event is accepted, by its bit and its kind
-abbrev acceptedBy : Machine → StatusBit → Kind → Bool
+abbrev acceptedBy : Machine → StatusBit → EventKind → Bool
 acceptedBy m bit k = accepted (firstApplying (linesBy m bit k) (answer.Done 0))
 
 general-accepted : (m : Machine) (k : ℕ) → acceptedBy m (gpe k) (kind.general k) ≡ (inGpe0 (m .settings) k || inGpe1 (m .settings) k)

@@ -15,8 +15,8 @@ use Rattle.bits.proofs.Digits.{below-or-beyond}
 use Rattle.machine.specs.declared.Machine.{Machine}
 use Rattle.model.specs.Answer.{numberOf, valueOf, Line, firstApplying}
 use Rattle.model.specs.Events.{StatusBit, eventBit}
-use Rattle.model.specs.Kinds.{Kind, kindOf}
-use Rattle.model.specs.Kinds as kind
+use Rattle.model.specs.EventKinds.{EventKind, eventKind}
+use Rattle.model.specs.EventKinds as kind
 use Rattle.model.specs.Step.{linesBy, linesOf, doneValue, doneOf, answerTo, accepted, after}
 use Rattle.model.specs.declared.Access.{Access}
 use Rattle.model.specs.declared.Answer.{Answer}
@@ -176,7 +176,7 @@ module _ (last : Answer) where
 
 -- ---- which number is given
 
-events-rise : (m : Machine) (bit : StatusBit) (k : Kind) → rising 0 (linesBy m bit k) ≡ true
+events-rise : (m : Machine) (bit : StatusBit) (k : EventKind) → rising 0 (linesBy m bit k) ≡ true
 events-rise m bit kind.press = refl
 events-rise m bit kind.release = refl
 events-rise m bit kind.signal = refl
@@ -189,7 +189,7 @@ events-rise m bit (kind.ticks n) = refl
 pub lines-rise : (m : Machine) (s : Step) → rising 0 (linesOf m s) ≡ true
 lines-rise m (step.Read a) = refl
 lines-rise m (step.Write a written) = refl
-lines-rise m (step.Event e) = events-rise m (eventBit e) (kindOf e)
+lines-rise m (step.Event e) = events-rise m (eventBit e) (eventKind e)
 lines-rise m step.Take = refl
 lines-rise m step.Drop = refl
 

@@ -17,8 +17,8 @@ use Rattle.machine.specs.Lines.{awake}
 use Rattle.machine.specs.Sleep.{isSleeping, wakeBits, wokenIf, restarted, overridden}
 use Rattle.machine.specs.declared.sleeping.WakeSource.{WakeSource}
 use Rattle.machine.specs.declared.sleeping.WakeSource.the-variants as source
-use Rattle.model.specs.Kinds.{Kind, kindOf}
-use Rattle.model.specs.Kinds as kind
+use Rattle.model.specs.EventKinds.{EventKind, eventKind}
+use Rattle.model.specs.EventKinds as kind
 use Rattle.model.specs.declared.Event.{Event}
 use Rattle.model.specs.declared.Event.the-variants as event
 
@@ -171,7 +171,7 @@ ticksOf (suc n) m = ticksOf n (tickedOnce m)
 -- ---- all of them
 
 -- what an accepted event does, by its bit and its kind
-abbrev pub doneBy : Machine → StatusBit → Kind → Machine
+abbrev pub doneBy : Machine → StatusBit → EventKind → Machine
 doneBy m bit kind.press = pressOf m
 doneBy m bit kind.release = releaseOf m
 doneBy m bit kind.signal = signalOf m bit
@@ -181,4 +181,4 @@ doneBy m bit (kind.general k) = generalOf m k
 doneBy m bit (kind.ticks n) = ticksOf n m
 
 unfoldable pub eventOf : Machine → Event → Machine
-eventOf m e = doneBy m (eventBit e) (kindOf e)
+eventOf m e = doneBy m (eventBit e) (eventKind e)

@@ -1,7 +1,7 @@
 pub mod Answer
 pub mod Ports
 pub mod Bus
-pub mod Kinds
+pub mod EventKinds
 pub mod Events
 pub mod Firmware
 pub mod Step

@@ -9,8 +9,8 @@ use Rattle.machine.specs.declared.Machine.{Machine}
 use Rattle.model.specs.Bus.{completes, namedState}
 use Rattle.machine.specs.Cells.{pwrbtnBit, wakBit, inStatus, onesIn, inGpeStatus}
 use Rattle.model.specs.Events.{StatusBit, pm1, gpe, eventBit, pm1Mask, eventMask, inS5, signalWakes, pcieWakes, inGpe0, numberIn, generalEnabled, clockAfter, tmrRaised}
-use Rattle.model.specs.Kinds.{Kind, kindOf}
-use Rattle.model.specs.Kinds as kind
+use Rattle.model.specs.EventKinds.{EventKind, eventKind}
+use Rattle.model.specs.EventKinds as kind
 use Rattle.machine.specs.Lines.{awake}
 use Rattle.machine.specs.Sleep.{isSleeping, pending}
 use Rattle.model.specs.Step.{registerOf, offsetOf, answerTo, accepted}
@@ -66,7 +66,7 @@ ticksChange m n =
     }
 
 -- "bus-master, unlock (global lock released) .. set their bits"; a general event that wakes sets WAK
-abbrev pub changeBy : Machine → StatusBit → Kind → Change
+abbrev pub changeBy : Machine → StatusBit → EventKind → Change
 changeBy m bit kind.press = pressChange m
 changeBy m bit kind.release = unchanged
 changeBy m bit kind.signal = signalChange m (pm1Mask bit)
@@ -76,7 +76,7 @@ changeBy m bit (kind.general k) = raising (wakIf m (generalEnabled m k))
 changeBy m bit (kind.ticks n) = ticksChange m n
 
 unfoldable pub eventChange : Machine → Event → Change
-eventChange m e = changeBy m (eventBit e) (kindOf e)
+eventChange m e = changeBy m (eventBit e) (eventKind e)
 
 -- "If on completing S1 to S4 .. already set, the machine wakes in the same step."
 unfoldable pub wakesAtOnce : Machine → Bool → ℕ → ℕ → ℕ → Bool
@@ -127,7 +127,7 @@ gpeMask s (pm1 j) = 0
 gpeMask s (gpe k) = 2 ^ (numberIn s k % 8)
 
 -- the event is a press
-abbrev pub isPress : Kind → Bool
+abbrev pub isPress : EventKind → Bool
 isPress kind.press = true
 isPress kind.release = false
 isPress kind.signal = false
@@ -137,7 +137,7 @@ isPress (kind.general k) = false
 isPress (kind.ticks n) = false
 
 -- "From S5 only a press wakes: all .. GPE cells .. zero"; "general events set their bits"; "In S5 .. other accepted events change nothing"
-abbrev pub gpeChangeBy : Machine → StatusBit → Kind → Bool → ℕ → Change
+abbrev pub gpeChangeBy : Machine → StatusBit → EventKind → Bool → ℕ → Change
 gpeChangeBy m bit kind b i =
     record {
       cleared = bitsIf (inS5 m && isPress kind) (2 ^ 8 - 1);
@@ -145,7 +145,7 @@ gpeChangeBy m bit kind b i =
     }
 
 unfoldable pub gpeEventChange : Machine → Event → Bool → ℕ → Change
-gpeEventChange m e b i = gpeChangeBy m (eventBit e) (kindOf e) b i
+gpeEventChange m e b i = gpeChangeBy m (eventBit e) (eventKind e) b i
 
 -- "GPE: status bytes, .. the same rules": the ones written to byte i of the block
 unfoldable pub gpeOnes : Machine → Register → ℕ → ℕ → Bool → ℕ → ℕ

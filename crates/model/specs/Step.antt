@@ -8,8 +8,8 @@ use Rattle.model.specs.Answer.{numberOf, Line, _if_, firstApplying}
 use Rattle.model.specs.Bus.{wrongWidth, dataTooWide, leadsNowhere, allowed, isTimer, commandLost, namesNone, readOf, writeOf}
 use Rattle.model.specs.Events.{StatusBit, eventBit, pm1Mask, fits, inGpe0, inGpe1, eventOf}
 use Rattle.model.specs.Firmware.{takeOf, dropOf}
-use Rattle.model.specs.Kinds.{Kind, kindOf}
-use Rattle.model.specs.Kinds as kind
+use Rattle.model.specs.EventKinds.{EventKind, eventKind}
+use Rattle.model.specs.EventKinds as kind
 use Rattle.machine.specs.Lines.{awake}
 use Rattle.model.specs.Ports.{registerAt, offsetAt}
 use Rattle.model.specs.declared.Access.{Access}
@@ -61,7 +61,7 @@ abbrev pub unfitted : Machine → StatusBit → Line
 unfitted m bit = answer.NotFitted if not (fits (m .settings) (pm1Mask bit))
 
 -- 28, then 30: "press while down, release while up"; 20: "bus-master, unlock .. outside S0"; 29: "a general event number belongs to no block"
-abbrev pub linesBy : Machine → StatusBit → Kind → List Line
+abbrev pub linesBy : Machine → StatusBit → EventKind → List Line
 linesBy m bit kind.press = unfitted m bit ∷ answer.ButtonAlready if m .button ∷ []
 linesBy m bit kind.release = unfitted m bit ∷ answer.ButtonAlready if not (m .button) ∷ []
 linesBy m bit kind.signal = unfitted m bit ∷ []
@@ -71,7 +71,7 @@ linesBy m bit (kind.general k) = answer.NoSuchEvent if not (inGpe0 (m .settings)
 linesBy m bit (kind.ticks n) = []
 
 abbrev pub eventLines : Machine → Event → List Line
-eventLines m e = linesBy m (eventBit e) (kindOf e)
+eventLines m e = linesBy m (eventBit e) (eventKind e)
 
 -- 20: "asleep: a bus access, bus-master, unlock or firmware step outside S0"; 31: "firmware takes with no command waiting"
 abbrev pub linesOf : Machine → Step → List Line

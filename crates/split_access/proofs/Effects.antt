@@ -21,8 +21,8 @@ use Rattle.machine.specs.Fields.{withGpe, withButton, withTime}
 use Rattle.machine.specs.Lines.{awake}
 use Rattle.machine.specs.Sleep.{isSleeping}
 use Rattle.model.specs.Raises.{bitsIf}
-use Rattle.model.specs.Kinds.{Kind, kindOf}
-use Rattle.model.specs.Kinds as kind
+use Rattle.model.specs.EventKinds.{EventKind, eventKind}
+use Rattle.model.specs.EventKinds as kind
 use Rattle.model.specs.Step.{linesBy, answerTo, accepted, after}
 use Rattle.model.proofs.EventBits.{Pair, pair-of}
 use Rattle.model.proofs.EventBits as pair
@@ -85,7 +85,7 @@ isFitted s bit = fits s (pm1Mask bit)
 abbrev fittedAnswer : Settings → StatusBit → Answer
 fittedAnswer s bit = cond (not (isFitted s bit)) answer.NotFitted (answer.Done 0)
 
-abbrev pub liveOf : Settings → StatusBit → Kind → Live
+abbrev pub liveOf : Settings → StatusBit → EventKind → Live
 liveOf s bit kind.press =
     record {
       answer = λ b. cond (not (isFitted s bit)) answer.NotFitted (cond b answer.ButtonAlready (answer.Done 0));
@@ -127,7 +127,7 @@ abbrev pub gpe1After : Settings → StatusBit → List ℕ → List ℕ
 gpe1After s (pm1 i) xs = xs
 gpe1After s (gpe k) xs = cond ((inGpe0 s k || inGpe1 s k) && not (inGpe0 s k)) (withBit xs (numberIn s k)) xs
 
-abbrev pub effectBy : Settings → StatusBit → Kind → Effect
+abbrev pub effectBy : Settings → StatusBit → EventKind → Effect
 effectBy s bit k =
     record {
       answer = liveOf s bit k .answer;
@@ -141,19 +141,19 @@ effectBy s bit k =
     }
 
 unfoldable pub effectOf : Settings → Event → Effect
-effectOf s e = effectBy s (eventBit e) (kindOf e)
+effectOf s e = effectBy s (eventBit e) (eventKind e)
 
 -- ---- each kind
 
 -- the answer to an event, and the machine after it, by its bit and its kind
-abbrev answerBy : Machine → StatusBit → Kind → Answer
+abbrev answerBy : Machine → StatusBit → EventKind → Answer
 answerBy m bit k = firstApplying (linesBy m bit k) (answer.Done 0)
 
-abbrev afterBy : Machine → StatusBit → Kind → Machine
+abbrev afterBy : Machine → StatusBit → EventKind → Machine
 afterBy m bit k = cond (accepted (answerBy m bit k)) (doneBy m bit k) m
 
 -- the claim for one of them
-abbrev AffectsBy : Machine → StatusBit → Kind → Type 0
+abbrev AffectsBy : Machine → StatusBit → EventKind → Type 0
 AffectsBy m bit k =
     (answerBy m bit k ≡ effectBy (m .settings) bit k .answer (m .button)) × (afterBy m bit k ≡ affected (effectBy (m .settings) bit k) m)
 
@@ -235,13 +235,13 @@ module _ (m : Machine) (n : ℕ) (z : m .state ≡ 0) where
 -- ---- all events
 
 -- nothing is off but a clock
-abbrev pub OnBy : Machine → StatusBit → Kind → Type 0
+abbrev pub OnBy : Machine → StatusBit → EventKind → Type 0
 OnBy m bit k = effectBy (m .settings) bit k .off (m .button) (m .hold) (m .counter) ≡ false
 
 abbrev pub On : Machine → Event → Type 0
 On m e = effectOf (m .settings) e .off (m .button) (m .hold) (m .counter) ≡ false
 
-kind-affects : {bit : StatusBit} {k : Kind} → Pair bit k → (m : Machine) → m .state ≡ 0 → OnBy m bit k → AffectsBy m bit k
+kind-affects : {bit : StatusBit} {k : EventKind} → Pair bit k → (m : Machine) → m .state ≡ 0 → OnBy m bit k → AffectsBy m bit k
 kind-affects pair.press m z on = press-affects m z
 kind-affects pair.release m z on = release-affects m
 kind-affects (pair.signal i l) m z on = signal-affects m i z
@@ -259,7 +259,7 @@ pub event-affects : (m : Machine) (e : Event) → m .state ≡ 0 → On m e → 
 unfolding effectOf answerTo after eventOf
 event-affects m e z on = kind-affects (pair-of e) m z on
 
-kind-on-or-off : {bit : StatusBit} {k : Kind} → Pair bit k → (m : Machine) → m .state ≡ 0 → OnBy m bit k ⊎ (afterBy m bit k .state ≡ 5)
+kind-on-or-off : {bit : StatusBit} {k : EventKind} → Pair bit k → (m : Machine) → m .state ≡ 0 → OnBy m bit k ⊎ (afterBy m bit k .state ≡ 5)
 kind-on-or-off pair.press m z = inl refl
 kind-on-or-off pair.release m z = inl refl
 kind-on-or-off (pair.signal i l) m z = inl refl

@@ -19,7 +19,7 @@ use Rattle.platform.specs.declared.settings.Settings.{Settings}
 use Rattle.machine.specs.Cells.{hasBit, statusIn, clearable, onesIn, oneByte, covered, placed, laneAt}
 use Rattle.machine.specs.declared.Machine.{Machine}
 use Rattle.model.specs.Events.{pm1, eventBit, pm1Mask, eventMask}
-use Rattle.model.specs.Kinds.{kindOf}
+use Rattle.model.specs.EventKinds.{eventKind}
 use Rattle.model.specs.Raises.{bitsIf}
 use Rattle.model.specs.declared.Event.{Event}
 use Rattle.model.proofs.EventBits.{pair-of, pm1-or-general, event-mask-lt}
@@ -99,7 +99,7 @@ bit-small false x h = lit< tt
 
 pub raises-small : (s : Settings) (e : Event) (button : Bool) (hold counter : ℕ) → maskOf s e button hold counter < 2 ^ 16
 unfolding effectOf
-raises-small s e button hold counter = bit-small (liveOf s (eventBit e) (kindOf e) .sets button hold counter) (eventMask e) (event-mask-lt e)
+raises-small s e button hold counter = bit-small (liveOf s (eventBit e) (eventKind e) .sets button hold counter) (eventMask e) (event-mask-lt e)
 
 -- ---- the ones of a write
 

@@ -11,8 +11,8 @@ use Rattle.clock.specs.Clock as clock
 use Rattle.platform.specs.declared.settings.Settings.{Settings}
 use Rattle.machine.specs.Cells.{tmrBit}
 use Rattle.model.specs.Events.{StatusBit, pm1, gpe, eventBit, fits}
-use Rattle.model.specs.Kinds.{Kind}
-use Rattle.model.specs.Kinds as kind
+use Rattle.model.specs.EventKinds.{EventKind}
+use Rattle.model.specs.EventKinds as kind
 use Rattle.model.specs.Raises.{bitsIf}
 use Rattle.model.specs.declared.Answer.the-variants as answer
 use Rattle.model.specs.declared.Event.{Event}
@@ -36,7 +36,7 @@ ticks-none s n e =
     record { answer = answer.Done 0; mask = bitsIf (fits s tmrBit && false) tmrBit; gpe0 = λ xs. xs; gpe1 = λ xs. xs; is = rw e refl }
 
 -- neither a button nor ticks
-quiet-kind : (s : Settings) {bit : StatusBit} {k : Kind} → Pair bit k → isPm1Bit 8 bit ≡ false → (isPm1Bit 0 bit && not (eqb (ticksIn k) 0)) ≡ false
+quiet-kind : (s : Settings) {bit : StatusBit} {k : EventKind} → Pair bit k → isPm1Bit 8 bit ≡ false → (isPm1Bit 0 bit && not (eqb (ticksIn k) 0)) ≡ false
     → Quiet (effectBy s bit k)
 quiet-kind s pair.press p q = true-false p
 quiet-kind s pair.release p q = true-false p

@@ -26,8 +26,8 @@ use Rattle.machine.specs.declared.Machine.{Machine}
 use Rattle.machine.proofs.Accepted.{accepted-guaranteed, accepted-machine}
 use Rattle.fadt.specs.Fields.{settingsOf}
 use Rattle.model.specs.Events.{StatusBit, pm1, eventBit, inS5}
-use Rattle.model.specs.Kinds.{Kind, kindOf}
-use Rattle.model.specs.Kinds as kind
+use Rattle.model.specs.EventKinds.{EventKind, eventKind}
+use Rattle.model.specs.EventKinds as kind
 use Rattle.model.specs.Raises.{Change, unchanged, bitsIf, pressChange, signalChange, pcieWakeChange, ticksChange, changeBy, eventChange, ruleChange, writeChange, raises, clears, gpeEventChange, gpeOnes, gpeRuleChange, gpeRaises, gpeClears}
 use Rattle.model.specs.Step.{answerTo, after, accepted, stepOf, registerOf, offsetOf}
 use Rattle.model.specs.declared.Access.{Access}
@@ -152,7 +152,7 @@ unfolding inS5
 not-in-s5 m z = rw z refl
 
 -- a gap step of a machine that stays awake clears no PM1 bit
-kind-change-none : (m : Machine) (bit : StatusBit) (k : Kind) → m .state ≡ 0 → OnBy m bit k → changeBy m bit k .cleared ≡ 0
+kind-change-none : (m : Machine) (bit : StatusBit) (k : EventKind) → m .state ≡ 0 → OnBy m bit k → changeBy m bit k .cleared ≡ 0
 unfolding pressChange signalChange pcieWakeChange ticksChange
 kind-change-none m bit kind.press z on = rw (not-in-s5 m z) refl
 kind-change-none m bit kind.release z on = refl
@@ -164,7 +164,7 @@ kind-change-none m bit (kind.ticks n) z on = rw (on, and-false (awake m)) refl
 
 event-change-none : (m : Machine) (e : Event) → m .state ≡ 0 → On m e → eventChange m e .cleared ≡ 0
 unfolding effectOf eventChange
-event-change-none m e z on = kind-change-none m (eventBit e) (kindOf e) z on
+event-change-none m e z on = kind-change-none m (eventBit e) (eventKind e) z on
 
 -- a gap step of a machine that is awake clears no general bit
 gpe-change-none : (m : Machine) (e : Event) (b : Bool) (i : ℕ) → m .state ≡ 0 → gpeEventChange m e b i .cleared ≡ 0

@@ -5,8 +5,8 @@ use lib.Dec.{eqb}
 use Rattle.platform.specs.declared.settings.Settings.{Settings}
 use Rattle.machine.specs.Cells.{hasBit}
 use Rattle.model.specs.Events.{StatusBit, pm1, gpe, eventBit}
-use Rattle.model.specs.Kinds.{Kind, kindOf}
-use Rattle.model.specs.Kinds as kind
+use Rattle.model.specs.EventKinds.{EventKind, eventKind}
+use Rattle.model.specs.EventKinds as kind
 use Rattle.model.specs.declared.Event.{Event}
 use Rattle.model.specs.declared.Step.{Step}
 use Rattle.model.specs.declared.Step.the-variants as step
@@ -41,7 +41,7 @@ abbrev pub isButton : Event → Bool
 isButton e = isPm1Bit 8 (eventBit e)
 
 -- how many ticks the event is
-abbrev pub ticksIn : Kind → ℕ
+abbrev pub ticksIn : EventKind → ℕ
 ticksIn kind.press = 0
 ticksIn kind.release = 0
 ticksIn kind.signal = 0
@@ -52,4 +52,4 @@ ticksIn (kind.ticks n) = n
 
 -- "ticks (n above zero)"
 abbrev pub isTicking : Event → Bool
-isTicking e = isPm1Bit 0 (eventBit e) && not (eqb (ticksIn (kindOf e)) 0)
+isTicking e = isPm1Bit 0 (eventBit e) && not (eqb (ticksIn (eventKind e)) 0)

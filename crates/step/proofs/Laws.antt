@@ -5,11 +5,11 @@ use Rattle.model.specs.Step.{stepOf}
 use Rattle.model.specs.declared.Step.{Step}
 use Rattle.model.specs.declared.Step.the-variants as step
 use Rattle.model.specs.declared.Stepped.{Stepped}
-use Rattle.step.specs.Kinds.{kindOf, stepOfKind}
-use Rattle.step.specs.declared.Kind.{Kind}
+use Rattle.step.specs.Kinds.{stepKind, ofKind}
+use Rattle.step.specs.declared.StepKind.{StepKind}
 
-kind-step : (s : Step) → stepOfKind (kindOf s) ≡ s
-unfolding kindOf stepOfKind
+kind-step : (s : Step) → ofKind (stepKind s) ≡ s
+unfolding stepKind ofKind
 kind-step (step.Read a) = refl
 kind-step (step.Write a written) = refl
 kind-step (step.Event e) = refl
@@ -17,5 +17,5 @@ kind-step step.Take = refl
 kind-step step.Drop = refl
 
 -- what is done by the step's kind is the step
-pub done-by-kind : (m : Machine) (s : Step) (k : Kind) (given : Stepped) → k ≡ kindOf s → given ≡ stepOf m (stepOfKind k) → given ≡ stepOf m s
-done-by-kind m s k given e d = d ∙ ap (λ x. stepOf m (stepOfKind x)) e ∙ ap (stepOf m) (kind-step s)
+pub done-by-kind : (m : Machine) (s : Step) (k : StepKind) (given : Stepped) → k ≡ stepKind s → given ≡ stepOf m (ofKind k) → given ≡ stepOf m s
+done-by-kind m s k given e d = d ∙ ap (λ x. stepOf m (ofKind x)) e ∙ ap (stepOf m) (kind-step s)

@@ -7,10 +7,10 @@ use model::Stepped;
 use model::Transfer;
 ghost use mathlib.Core.Path.{_≡_};
 ghost use Rattle.model.specs.Step.{stepOf};
-ghost use Rattle.step.specs.Kinds.{readTransfer, writeTransfer, kindOf};
+ghost use Rattle.step.specs.Kinds.{readTransfer, writeTransfer, stepKind};
 
 // A step by who does it. Reads and writes are one kind, so that the bus has one caller.
-pub enum Kind {
+pub enum StepKind {
     Bus(Transfer),
     Event(Event),
     Take,
@@ -37,15 +37,15 @@ fn write(access: Access, written: u64) -> Transfer
     }
 }
 
-fn kind_of(s: Step) -> Kind
-    ensures { λ r. ⌜ r ≡ kindOf s ⌝ }
+fn kind_of(s: Step) -> StepKind
+    ensures { λ r. ⌜ r ≡ stepKind s ⌝ }
 {
     match s {
-        Step::Read(access) => Kind::Bus(read(access)),
-        Step::Write(access, written) => Kind::Bus(write(access, written)),
-        Step::Event(e) => Kind::Event(e),
-        Step::Take => Kind::Take,
-        Step::Drop => Kind::Drop,
+        Step::Read(access) => StepKind::Bus(read(access)),
+        Step::Write(access, written) => StepKind::Bus(write(access, written)),
+        Step::Event(e) => StepKind::Event(e),
+        Step::Take => StepKind::Take,
+        Step::Drop => StepKind::Drop,
     }
 }
 
@@ -54,10 +54,10 @@ fn stepped(m: Machine, s: Step) -> Stepped
 {
     let kind = kind_of(s);
     match kind {
-        Kind::Bus(t) => bus::access(m, t),
-        Kind::Event(e) => events::event(m, e),
-        Kind::Take => firmware::take(m),
-        Kind::Drop => firmware::drop(m),
+        StepKind::Bus(t) => bus::access(m, t),
+        StepKind::Event(e) => events::event(m, e),
+        StepKind::Take => firmware::take(m),
+        StepKind::Drop => firmware::drop(m),
     }
 }
 

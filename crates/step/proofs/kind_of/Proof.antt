@@ -1,4 +1,4 @@
-use Rattle.step.specs.Kinds.{kindOf}
+use Rattle.step.specs.Kinds.{stepKind}
 use borrow.Author.Needs.{needs}
 use Rattle.step.proofs.kind_of.Statement.{statement}
 use Rattle.step.proofs.kind_of.Tie as tie
@@ -25,23 +25,23 @@ enum-told-2 : tie.Need-enum-told-2
 enum-told-2 c = search needs
 
 returns : tie.Need-returns
-unfolding kindOf
+unfolding stepKind
 returns c = simp (c .read .ensures, c .before .before .s .given .1)
 
 returns-2 : tie.Need-returns-2
-unfolding kindOf
+unfolding stepKind
 returns-2 c = simp (c .write .ensures, c .before .before .s2 .given .1)
 
 returns-3 : tie.Need-returns-3
-unfolding kindOf
+unfolding stepKind
 returns-3 c = simp (c .before .s3 .given .1)
 
 returns-4 : tie.Need-returns-4
-unfolding kindOf
+unfolding stepKind
 returns-4 c = simp (c .enum-told .given .1)
 
 returns-5 : tie.Need-returns-5
-unfolding kindOf
+unfolding stepKind
 returns-5 c = simp (c .enum-told2 .given .1)
 
 pub kind-of-spec : {M : Type 1} → statement M

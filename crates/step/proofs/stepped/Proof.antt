@@ -1,5 +1,5 @@
-use Rattle.step.specs.Kinds.{stepOfKind}
-use Rattle.step.specs.declared.Kind.the-variants as kind
+use Rattle.step.specs.Kinds.{ofKind}
+use Rattle.step.specs.declared.StepKind.the-variants as kind
 use Rattle.step.proofs.Laws.{done-by-kind}
 use mathlib.Core.Path.{sym, _∙_}
 use borrow.Author.Needs.{needs}
@@ -34,19 +34,19 @@ drop-requires : tie.Need-drop-requires
 drop-requires c κs = search needs
 
 returns : tie.Need-returns
-unfolding stepOfKind
+unfolding ofKind
 returns c = done-by-kind _ _ (kind.Bus _) _ (sym (c .before .before .kind .given .1) ∙ c .before .before .before .before .kind-of .ensures) (c .access .ensures)
 
 returns-2 : tie.Need-returns-2
-unfolding stepOfKind
+unfolding ofKind
 returns-2 c = done-by-kind _ _ (kind.Event _) _ (sym (c .before .before .kind2 .given .1) ∙ c .before .before .before .before .kind-of .ensures) (c .event .ensures)
 
 returns-3 : tie.Need-returns-3
-unfolding stepOfKind
+unfolding ofKind
 returns-3 c = done-by-kind _ _ kind.Take _ (sym (c .before .enum-told .given .1) ∙ c .before .before .before .kind-of .ensures) (c .take .ensures)
 
 returns-4 : tie.Need-returns-4
-unfolding stepOfKind
+unfolding ofKind
 returns-4 c = done-by-kind _ _ kind.Drop _ (sym (c .before .enum-told2 .given .1) ∙ c .before .before .before .kind-of .ensures) (c .drop .ensures)
 
 pub stepped-spec : {M : Type 1} → statement M
