@@ -10,10 +10,10 @@ use lib.Dec.{lit<, lit≤}
 use lib.Pow.{pow-mono, shl-lt, shl-shr, high-ones}
 use lib.Bits.{bitAnd, bitOr, and-high, and-mask}
 use Rattle.bits.specs.Digit.{digit}
-use Rattle.bits.specs.Cell.{clearedBy, takenBy, lane, laneMask, byteAt, clearedByte, takenByte}
+use Rattle.bits.specs.Writes.{clearedBy, takenBy, lane, laneMask, byteAt, clearedByte, takenByte}
 use Rattle.bits.proofs.Digits.{digit-le, digit-and, digit-below-shift, digit-shifted, digit-shr, digit-mod, digit-ones, digit-beyond, below-or-beyond, same-digits-below}
 use Rattle.bits.proofs.Algebra.{and-assoc, and-swap, and-over-or}
-use Rattle.bits.proofs.Cells.{masked-lt, kept-lt, take-lt, digit-cleared, digit-taken, clears-join, takes-join}
+use Rattle.bits.proofs.Writes.{masked-lt, kept-lt, take-lt, digit-cleared, digit-taken, clears-join, takes-join}
 
 -- ---- bytes and lanes
 

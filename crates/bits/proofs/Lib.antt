@@ -1,5 +1,5 @@
 pub mod Digits
 pub mod Algebra
-pub mod Cells
+pub mod Writes
 pub mod Lanes
 pub mod Values

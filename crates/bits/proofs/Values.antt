@@ -1,7 +1,7 @@
 -- The values that document 01 marks for the cell rules: all event bits fitted, all homes A. Each is computed.
 -- Assumes nothing.
 use mathlib.Core.Path.{_≡_, refl}
-use Rattle.bits.specs.Cell.{clearedBy, takenBy, clearedByte}
+use Rattle.bits.specs.Writes.{clearedBy, takenBy, clearedByte}
 
 pub status-write-FFFF : clearedBy 16 0xC731 0xFFFF 0xC731 ≡ 0x0000
 status-write-FFFF = refl

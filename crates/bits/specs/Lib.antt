@@ -1,2 +1,2 @@
 pub mod Digit
-pub mod Cell
+pub mod Writes

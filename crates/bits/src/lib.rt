@@ -2,7 +2,7 @@
 ghost use mathlib.Core.Bool.{cond};
 ghost use mathlib.Core.Path.{_≡_};
 ghost use Prim.Native.Nat.{_-_};
-ghost use Rattle.bits.specs.Cell.{clearedBy, takenBy, within};
+ghost use Rattle.bits.specs.Writes.{clearedBy, takenBy, within};
 
 // Write one to clear: a byte, and a word.
 pub fn clear8(old: u8, byte: u8, mask: u8) -> u8

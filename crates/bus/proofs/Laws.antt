@@ -9,13 +9,14 @@ use lib.Dec.{eqb}
 use Rattle.lists.specs.Any.{any}
 use Rattle.lists.proofs.Tests.{or-left}
 use Rattle.platform.specs.declared.settings.Settings.{Settings}
-use Rattle.bits.specs.Cell.{byteAt}
-use Rattle.machine.specs.Cells.{laneAt, oneByte, shown, inStatus, inEnable, statusAfter, enableAfter, coversLow, coversHigh, gpeHalf, inGpeStatus, gpeStsCleared, gpeEnTaken, gpeStsAfter, gpeEnAfter}
+use Rattle.bits.specs.Writes.{byteAt}
+use Rattle.registers.specs.Registers.{laneAt, oneByte, shown, inStatus, inEnable, statusAfter, enableAfter, coversLow, coversHigh, gpeHalf, inGpeStatus, gpeStsCleared, gpeEnTaken, gpeStsAfter, gpeEnAfter}
 use Rattle.machine.specs.declared.Machine.{Machine}
 use Rattle.machine.specs.Fields.{withGpe}
 use Rattle.model.specs.Answer.{firstApplying}
-use Rattle.model.specs.Bus.{dataTooWide, setsSlpEn, typAfter, completes, armedAfter, namesNone, bmRldAfter, gblRlsAfter, gpeWritten, readOf, writeOf}
-use Rattle.model.specs.Step.{registerOf, offsetOf, writeLines, answerTo, accepted, stepOf}
+use Rattle.model.specs.Bus.{dataTooWide, gpeWritten, readOf, writeOf}
+use Rattle.model.specs.Control.{setsSlpEn, typAfter, completes, armedAfter, namesNone, bmRldAfter, gblRlsAfter}
+use Rattle.model.specs.Step.{registerOf, offsetOf, writeRefusals, answerTo, accepted, stepOf}
 use Rattle.model.specs.declared.Access.{Access}
 use Rattle.model.specs.declared.Answer.{Answer}
 use Rattle.model.specs.declared.Answer.the-variants as answer
@@ -24,20 +25,20 @@ use Rattle.model.specs.declared.Register.the-variants as register
 use Rattle.model.specs.declared.Step.the-variants as step
 use Rattle.model.specs.declared.Stepped.{Stepped}
 use Rattle.model.proofs.Steps.{zero-exactly, accepted-does, refused-stays}
-use Rattle.bus.specs.Cells.{gpeCell}
+use Rattle.bus.specs.GpeBytes.{gpeNumber}
 
 -- a GPE cell below 256 is a status byte, and one from 256 on an enable byte
 module _ (s : Settings) (b : Bool) (offset cell : ℕ) where
-  pub cell-in-status : cell ≡ gpeCell s b offset → cell < 256 → inGpeStatus s b offset ≡ true
-  unfolding gpeCell
+  pub cell-in-status : cell ≡ gpeNumber s b offset → cell < 256 → inGpeStatus s b offset ≡ true
+  unfolding gpeNumber
   cell-in-status = go (inGpeStatus s b offset)
     where
       go : (t : Bool) → cell ≡ cond t (offset % 256) (256 + (offset - gpeHalf s b) % 256) → cell < 256 → t ≡ true
       go true e h = refl
       go false e h = absurd (omega (arith, e))
 
-  pub cell-past-status : cell ≡ gpeCell s b offset → 256 ≤ cell → inGpeStatus s b offset ≡ false
-  unfolding gpeCell
+  pub cell-past-status : cell ≡ gpeNumber s b offset → 256 ≤ cell → inGpeStatus s b offset ≡ false
+  unfolding gpeNumber
   cell-past-status = go (inGpeStatus s b offset)
     where
       go : (t : Bool) → cell ≡ cond t (offset % 256) (256 + (offset - gpeHalf s b) % 256) → 256 ≤ cell → t ≡ false
@@ -96,13 +97,13 @@ abbrev stepped : Answer → Machine → Stepped
 stepped given next = record { answer = given; machine = next }
 
 module _ (m : Machine) (a : Access) (written : ℕ) (r : Register) (offset : ℕ) (given : Answer) where
-  answered : r ≡ registerOf m a → offset ≡ offsetOf m a → given ≡ firstApplying (writeLines m r (a .width) offset written) (answer.Done 0)
+  answered : r ≡ registerOf m a → offset ≡ offsetOf m a → given ≡ firstApplying (writeRefusals m r (a .width) offset written) (answer.Done 0)
       → given ≡ answerTo m (step.Write a written)
   unfolding answerTo
-  answered p q e = e ∙ ap₂ (λ x o. firstApplying (writeLines m x (a .width) o written) (answer.Done 0)) p q
+  answered p q e = e ∙ ap₂ (λ x o. firstApplying (writeRefusals m x (a .width) o written) (answer.Done 0)) p q
 
   pub write-accepted : (low : ℕ) (next : Machine) → r ≡ registerOf m a → offset ≡ offsetOf m a
-      → given ≡ firstApplying (writeLines m r (a .width) offset written) (answer.Done 0)
+      → given ≡ firstApplying (writeRefusals m r (a .width) offset written) (answer.Done 0)
       → accepted given ≡ true → low ≡ written % 2 ^ 32 → next ≡ writeOf m r (a .width) offset low
       → stepped given next ≡ stepOf m (step.Write a written)
   write-accepted low next p q e t l n =
@@ -116,7 +117,7 @@ module _ (m : Machine) (a : Access) (written : ℕ) (r : Register) (offset : ℕ
       ∙ sym (accepted-does m (step.Write a written) taken))
 
   pub write-refused : r ≡ registerOf m a → offset ≡ offsetOf m a
-      → given ≡ firstApplying (writeLines m r (a .width) offset written) (answer.Done 0)
+      → given ≡ firstApplying (writeRefusals m r (a .width) offset written) (answer.Done 0)
       → accepted given ≡ false
       → stepped given m ≡ stepOf m (step.Write a written)
   write-refused p q e t =

@@ -9,13 +9,13 @@ use registers::read_high;
 use registers::read_low;
 ghost use mathlib.Core.Path.{_≡_};
 ghost use mathlib.Core.Bool.{cond, true};
-ghost use Rattle.bus.specs.Cells.{gpeCell};
+ghost use Rattle.bus.specs.GpeBytes.{gpeNumber};
 ghost use Rattle.machine.specs.Fields.{withEvent, withGpe, withCommand, withArbDis};
 ghost use Rattle.model.specs.Bus.{timerRegister, readOf, writeOf};
 
 // A GPE block's bytes as cells, since a length is a byte: status bytes from 0 on, enable bytes from 256 on.
-fn gpe_cell(s: Settings, b: bool, offset: u64) -> u64
-    ensures { λ r. ⌜ r ≡ gpeCell s b offset ⌝ }
+fn gpe_number(s: Settings, b: bool, offset: u64) -> u64
+    ensures { λ r. ⌜ r ≡ gpeNumber s b offset ⌝ }
 {
     let past = registers::past_status(s, b, offset);
     pick64(
@@ -61,8 +61,8 @@ pub(crate) fn read_cells(m: Machine, r: Register, width: u32, offset: u64) -> u3
         Register::Pm2Cnt => pick32(m.arb_dis, 1, 0),
         Register::PmTmr => timer_register(m),
         Register::Gpe(b) => {
-            let cell = gpe_cell(s, b, offset);
-            match cell {
+            let number = gpe_number(s, b, offset);
+            match number {
                 0..=255 => registers::gpe_sts_byte(m, b, offset) as u32,
                 _ => registers::gpe_en_byte(m, b, offset) as u32,
             }
@@ -147,8 +147,8 @@ pub(crate) fn write_cells(m: Machine, r: Register, width: u32, offset: u64, writ
         Register::Pm2Cnt => with_arb_dis(m, written % 2 == 1),
         Register::PmTmr => m,
         Register::Gpe(b) => {
-            let cell = gpe_cell(s, b, offset);
-            match cell {
+            let number = gpe_number(s, b, offset);
+            match number {
                 0..=255 => with_gpe_sts(m, b, registers::gpe_sts_cleared(m, b, offset, written)),
                 _ => with_gpe_en(m, b, registers::gpe_en_taken(m, b, offset, written)),
             }

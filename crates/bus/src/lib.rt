@@ -24,13 +24,13 @@ ghost use Prim.Native.Nat.{_%_, _^_};
 ghost use Rattle.model.specs.Answer.{firstApplying};
 ghost use Rattle.model.specs.Bus.{readOf};
 ghost use Rattle.model.specs.Ports.{walk};
-ghost use Rattle.model.specs.Step.{readLines, writeLines, busStep, stepOf};
+ghost use Rattle.model.specs.Step.{readRefusals, writeRefusals, busStep, stepOf};
 ghost use Rattle.model.specs.declared.Answer.the-variants as answer;
 ghost use Rattle.model.specs.declared.Step.the-variants as step;
 
 // 20, 21, 23 and 24; else what is read.
 fn read_answer(m: Machine, r: Register, width: u32, offset: u64) -> Answer
-    ensures { λ result. ⌜ result ≡ firstApplying (readLines m r width offset) (answer.Done (readOf m r width offset)) ⌝ }
+    ensures { λ result. ⌜ result ≡ firstApplying (readRefusals m r width offset) (answer.Done (readOf m r width offset)) ⌝ }
 {
     if awake(m) {
         if wrong_width(width) {
@@ -68,7 +68,7 @@ fn low(written: u64) -> u32
 
 // 20 to 27, else 0.
 fn write_answer(m: Machine, r: Register, width: u32, offset: u64, written: u64) -> Answer
-    ensures { λ result. ⌜ result ≡ firstApplying (writeLines m r width offset written) (answer.Done 0) ⌝ }
+    ensures { λ result. ⌜ result ≡ firstApplying (writeRefusals m r width offset written) (answer.Done 0) ⌝ }
 {
     if awake(m) {
         if wrong_width(width) {

@@ -7,7 +7,7 @@ use native.Mathlib.Nat.{zero-add, suc-add, add-zero, le-trans}
 use native.Mathlib.Numerals.{add-one}
 use native.Mathlib.Omega.{arith}
 use Rattle.clock.specs.Clock.{counterBits, advance, turned, holdLimit, grow, overrides, tickOf, ticksOf, startOf}
-use Rattle.clock.specs.AtOnce.{overridden, ranOf, counterAfter, turnsIn, holdAfter, afterOf}
+use Rattle.clock.specs.AtOnce.{offWithin, ranOf, counterAfter, turnsIn, holdAfter, afterOf}
 use Rattle.clock.specs.declared.Clock.{Clock}
 use Rattle.clock.proofs.Counter.{some-bits, turns-in-none, turns-in-at-most, turns-next, counter-next}
 use Rattle.clock.proofs.Hold.{hold-none, hold-next, overridden-none, overridden-next, overrides-next, ran-none, ran-at-most, ran-next}
@@ -19,13 +19,13 @@ same-clock s t p q r u = λ i. record { counter = p i; turns = q i; hold = r i; 
 
 module _ (down fitted : Bool) (h n : ℕ) where
   -- f is what m ticks make of a field, and g what one tick more makes of that
-  field-next : (f g : ℕ → ℕ) → ((m : ℕ) → g m ≡ f (m + 1)) → (b : Bool) → overridden down fitted h n ≡ b
-      → cond b (f (cond b (holdLimit - h) n)) (g (cond b (holdLimit - h) n)) ≡ f (cond (overridden down fitted h (n + 1)) (holdLimit - h) (n + 1))
+  field-next : (f g : ℕ → ℕ) → ((m : ℕ) → g m ≡ f (m + 1)) → (b : Bool) → offWithin down fitted h n ≡ b
+      → cond b (f (cond b (holdLimit - h) n)) (g (cond b (holdLimit - h) n)) ≡ f (cond (offWithin down fitted h (n + 1)) (holdLimit - h) (n + 1))
   field-next f g one true e = rw (overridden-next down fitted h n e)
   field-next f g one false e = one n ∙ ap f (sym (ran-next down fitted h n _ e refl))
 
-  off-next : (b : Bool) → overridden down fitted h n ≡ b
-      → (b || overrides down fitted (holdAfter down h (cond b (holdLimit - h) n))) ≡ overridden down fitted h (n + 1)
+  off-next : (b : Bool) → offWithin down fitted h n ≡ b
+      → (b || overrides down fitted (holdAfter down h (cond b (holdLimit - h) n))) ≡ offWithin down fitted h (n + 1)
   off-next true e = sym (overridden-next down fitted h n e)
   off-next false e = overrides-next down fitted h n e
 

@@ -8,7 +8,7 @@ use native.Mathlib.Omega.{arith}
 use borrow.Author.Tests.{ltb-true, ltb-false, leb-true, leb-false, lt-ltb, le-leb, lt-leb, eq-eqb, ne-eqb}
 use lib.Dec.{eqb, ltb, leb}
 use Rattle.clock.specs.Clock.{holdLimit, grow, overrides}
-use Rattle.clock.specs.AtOnce.{overridden, ranOf, holdAfter}
+use Rattle.clock.specs.AtOnce.{offWithin, ranOf, holdAfter}
 
 -- ---- hold
 
@@ -38,8 +38,8 @@ hold-next false h n = refl
 -- ---- the override
 
 -- where it comes, hold is below its limit and the ticks take it there
-pub overridden-reaches : (down fitted : Bool) (h n : ℕ) → overridden down fitted h n ≡ true → (h < holdLimit) × (holdLimit ≤ h + n)
-unfolding overridden
+pub overridden-reaches : (down fitted : Bool) (h n : ℕ) → offWithin down fitted h n ≡ true → (h < holdLimit) × (holdLimit ≤ h + n)
+unfolding offWithin
 overridden-reaches true true h n e =
     let p : (ltb h holdLimit ≡ true) × (leb holdLimit (h + n) ≡ true) = and-eq-true-iff (ltb h holdLimit) (leb holdLimit (h + n)) .0 e in
     (ltb-true h holdLimit (p .0), leb-true holdLimit (h + n) (p .1))
@@ -52,13 +52,13 @@ overridden-test-none true true h false e = refl
 overridden-test-none true false h b e = refl
 overridden-test-none false fitted h b e = refl
 
-pub overridden-none : (down fitted : Bool) (h : ℕ) → overridden down fitted h 0 ≡ false
-unfolding overridden
+pub overridden-none : (down fitted : Bool) (h : ℕ) → offWithin down fitted h 0 ≡ false
+unfolding offWithin
 overridden-none down fitted h = overridden-test-none down fitted h (ltb h holdLimit) refl
 
 -- what has come stays
-pub overridden-next : (down fitted : Bool) (h n : ℕ) → overridden down fitted h n ≡ true → overridden down fitted h (n + 1) ≡ true
-unfolding overridden
+pub overridden-next : (down fitted : Bool) (h n : ℕ) → offWithin down fitted h n ≡ true → offWithin down fitted h (n + 1) ≡ true
+unfolding offWithin
 overridden-next true true h n e =
     let p : (h < holdLimit) × (holdLimit ≤ h + n) = overridden-reaches true true h n e in
     rw (lt-ltb h holdLimit (p .0)) (le-leb holdLimit (h + (n + 1)) (omega arith))
@@ -74,9 +74,9 @@ overrides-test-next h n true false e f o =
 overrides-test-next h n false d e f o = ne-eqb (h + 1) holdLimit (λ z. omega (arith, ltb-false h holdLimit e))
 
 -- where it has not come, the next tick brings it exactly if hold is one below its limit
-pub overrides-next : (down fitted : Bool) (h n : ℕ) → overridden down fitted h n ≡ false
-    → overrides down fitted (holdAfter down h n) ≡ overridden down fitted h (n + 1)
-unfolding overridden overrides holdAfter
+pub overrides-next : (down fitted : Bool) (h n : ℕ) → offWithin down fitted h n ≡ false
+    → overrides down fitted (holdAfter down h n) ≡ offWithin down fitted h (n + 1)
+unfolding offWithin overrides holdAfter
 overrides-next true true h n o = overrides-test-next h n (ltb h holdLimit) (leb holdLimit (h + (n + 1))) refl refl o
 overrides-next true false h n o = refl
 overrides-next false fitted h n o = refl
@@ -87,7 +87,7 @@ pub ran-none : (down fitted : Bool) (h : ℕ) → ranOf down fitted h 0 ≡ 0
 unfolding ranOf
 ran-none down fitted h = rw (overridden-none down fitted h)
 
-ran-test-at-most : (down fitted : Bool) (h n : ℕ) (b : Bool) → overridden down fitted h n ≡ b → cond b (holdLimit - h) n ≤ n
+ran-test-at-most : (down fitted : Bool) (h n : ℕ) (b : Bool) → offWithin down fitted h n ≡ b → cond b (holdLimit - h) n ≤ n
 ran-test-at-most down fitted h n true e = omega (arith, overridden-reaches down fitted h n e)
 ran-test-at-most down fitted h n false e = omega arith
 
@@ -96,15 +96,15 @@ unfolding ranOf
 ran-at-most down fitted h n = ran-test-at-most down fitted h n _ refl
 
 -- the tick that brings the override is the last that runs
-reached-next : (down fitted : Bool) (h n : ℕ) → overridden down fitted h n ≡ false → overridden down fitted h (n + 1) ≡ true → holdLimit - h ≡ n + 1
-unfolding overridden
+reached-next : (down fitted : Bool) (h n : ℕ) → offWithin down fitted h n ≡ false → offWithin down fitted h (n + 1) ≡ true → holdLimit - h ≡ n + 1
+unfolding offWithin
 reached-next true true h n o e =
     let p : (h < holdLimit) × (holdLimit ≤ h + (n + 1)) = overridden-reaches true true h (n + 1) e in
     omega (arith, leb-false holdLimit (h + n) (rw (lt-ltb h holdLimit (p .0)) at o))
 reached-next true false h n o e = cc
 reached-next false fitted h n o e = cc
 
-pub ran-next : (down fitted : Bool) (h n : ℕ) (d : Bool) → overridden down fitted h n ≡ false → overridden down fitted h (n + 1) ≡ d
+pub ran-next : (down fitted : Bool) (h n : ℕ) (d : Bool) → offWithin down fitted h n ≡ false → offWithin down fitted h (n + 1) ≡ d
     → cond d (holdLimit - h) (n + 1) ≡ n + 1
 ran-next down fitted h n true o e = reached-next down fitted h n o e
 ran-next down fitted h n false o e = refl

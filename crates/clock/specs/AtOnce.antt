@@ -6,12 +6,12 @@ use Rattle.clock.specs.Clock.{counterBits, holdLimit}
 use Rattle.clock.specs.declared.Clock.{Clock}
 
 -- one of the n ticks takes hold to its limit, with the button down and the override fitted
-unfoldable pub overridden : Bool → Bool → ℕ → ℕ → Bool
-overridden down fitted hold n = down && fitted && ltb hold holdLimit && leb holdLimit (hold + n)
+unfoldable pub offWithin : Bool → Bool → ℕ → ℕ → Bool
+offWithin down fitted hold n = down && fitted && ltb hold holdLimit && leb holdLimit (hold + n)
 
 -- the ticks that run: those up to the override, or all
 unfoldable pub ranOf : Bool → Bool → ℕ → ℕ → ℕ
-ranOf down fitted hold n = cond (overridden down fitted hold n) (holdLimit - hold) n
+ranOf down fitted hold n = cond (offWithin down fitted hold n) (holdLimit - hold) n
 
 -- zero ticks leave the counter alone, also one past its size
 unfoldable pub counterAfter : ℕ → ℕ → ℕ → ℕ
@@ -32,5 +32,5 @@ afterOf wide down fitted n t =
       counter = counterAfter (counterBits wide) (t .counter) (ranOf down fitted (t .hold) n);
       turns = t .turns + turnsIn (counterBits wide) (t .counter) (ranOf down fitted (t .hold) n);
       hold = holdAfter down (t .hold) (ranOf down fitted (t .hold) n);
-      off = overridden down fitted (t .hold) n;
+      off = offWithin down fitted (t .hold) n;
     }

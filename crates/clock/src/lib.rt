@@ -2,7 +2,7 @@
 ghost use mathlib.Core.Path.{_≡_};
 ghost use Prim.Native.Nat.{_^_, min};
 ghost use Rattle.clock.specs.Clock.{counterBits, ticksOf, startOf};
-ghost use Rattle.clock.specs.AtOnce.{overridden, ranOf, counterAfter, turnsIn, holdAfter};
+ghost use Rattle.clock.specs.AtOnce.{offWithin, ranOf, counterAfter, turnsIn, holdAfter};
 
 // 4 seconds at 3,579,545 Hz.
 const HOLD_LIMIT: u64 = 14318180;
@@ -33,7 +33,7 @@ fn size(wide: bool) -> u64
 
 // One of the n ticks brings the power button override.
 fn is_overridden(down: bool, fitted: bool, hold: u32, n: u32) -> bool
-    ensures { λ r. ⌜ r ≡ overridden down fitted hold n ⌝ }
+    ensures { λ r. ⌜ r ≡ offWithin down fitted hold n ⌝ }
 {
     let from = hold as u64;
     down & fitted & (from < HOLD_LIMIT) & (HOLD_LIMIT <= from + (n as u64))

@@ -14,7 +14,7 @@ use registers::has_pm1b_cnt;
 use registers::placed;
 use registers::written_bit;
 ghost use mathlib.Core.Path.{_≡_};
-ghost use Rattle.model.specs.Bus.{setsSlpEn, writtenTyp, typAfter, completes, armedAfter, namedState, namesNone, bmRldAfter, gblRlsAfter, controlled, controlWritten};
+ghost use Rattle.model.specs.Control.{setsSlpEn, writtenTyp, typAfter, completes, armedAfter, namedState, namesNone, bmRldAfter, gblRlsAfter, controlled, controlWritten};
 
 fn sets_slp_en(width: u32, offset: u64, written: u32) -> bool
     ensures { λ r. ⌜ r ≡ setsSlpEn width offset written ⌝ }

@@ -1,9 +1,9 @@
 // The power and sleep buttons, the alarm, and PCIe wake.
+use acpi::PCIEXP_WAKE_STS;
+use acpi::PWRBTN_STS;
 use machine::Machine;
 use machine::PCIEXP_WAKE;
-use machine::PCIEXP_WAKE_STS;
 use machine::PWRBTN;
-use machine::PWRBTN_STS;
 use machine::WakeSource;
 use machine::has_bit;
 use machine::is_sleeping;
@@ -11,7 +11,7 @@ use machine::wake_bits;
 use platform::Settings;
 ghost use mathlib.Core.Path.{_≡_};
 ghost use mathlib.Core.Bool.{true, cond};
-ghost use Rattle.machine.specs.Cells.{pwrbtnBit};
+ghost use Rattle.machine.specs.Status.{pwrbtnBit};
 ghost use Rattle.machine.specs.Fields.{withButton};
 ghost use Rattle.machine.specs.Sleep.{restarted, wokenIf};
 ghost use Prim.Native.Nat.{_^_};

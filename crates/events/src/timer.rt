@@ -11,7 +11,7 @@ ghost use mathlib.Core.Path.{_≡_};
 ghost use mathlib.Core.Bool.{cond};
 ghost use Rattle.machine.specs.Fields.{withTime};
 ghost use Rattle.machine.specs.Sleep.{overridden};
-ghost use Rattle.model.specs.Events.{tmrRaised, timed, ticksOf};
+ghost use Rattle.model.specs.Events.{tmrRaised, timed, tickedBy};
 
 fn tmr_raised(s: Settings, turns: u32) -> u16
     ensures { λ r. ⌜ r ≡ tmrRaised s turns ⌝ }
@@ -43,7 +43,7 @@ fn timed(m: Machine, t: Clock) -> Machine
 
 // n ticks at once, in S0 only.
 pub(crate) fn ticks(m: Machine, n: u32) -> Machine
-    ensures { λ r. ⌜ r ≡ ticksOf n m ⌝ }
+    ensures { λ r. ⌜ r ≡ tickedBy n m ⌝ }
 {
     let s = m.settings;
     if awake(m) {

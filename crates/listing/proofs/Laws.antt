@@ -19,7 +19,7 @@ use Rattle.text.proofs.Stores.{sets-then}
 use Rattle.listing.specs.Entry.{decimal, flag, stateDigit, stateText, tail, fields, entry, entryLength, putAt}
 use Rattle.machine.specs.declared.Machine.{Machine}
 use Rattle.machine.specs.Lines.{sciOf, smiOf}
-use Rattle.model.specs.Answer.{numberOf, valueOf}
+use Rattle.model.specs.Answer.{stepNumber, stepValue}
 use Rattle.model.specs.declared.Answer.{Answer}
 
 pub two-writes : (l : List ℕ) (at j : ℕ) (xs ys first second : List ℕ) → first ≡ sets l at xs → at + length xs ≡ j → second ≡ sets first j ys
@@ -107,13 +107,13 @@ rest-fits a b p q = record { fits = omega (arith, p, q) }
 
 module _ (k : ℕ) (a : Answer) (at : ℕ) where
   -- room for the line is room for its places
-  pub room-suffices : (room number len : ℕ) → len ≡ entryLength k a → number ≡ numberOf a → at ≤ room → len ≤ room - at → room < 2 ^ 64
+  pub room-suffices : (room number len : ℕ) → len ≡ entryLength k a → number ≡ stepNumber a → at ≤ room → len ≤ room - at → room < 2 ^ 64
       → at + (digitCount 10 k + digitCount 10 number + 18) < 2 ^ 64
   room-suffices room number len e n p q r = rw n (omega (arith, e, p, q, r))
 
   module _ (m : Machine) (l : List ℕ) (len : ℕ) (e : len ≡ entryLength k a) where
     pub put-there : (number value : ℕ) (sci smi : Bool) (exit : List ℕ) → at ≤ length l → len ≤ length l - at
-        → number ≡ numberOf a → value ≡ valueOf a → sci ≡ sciOf m → smi ≡ smiOf m
+        → number ≡ stepNumber a → value ≡ stepValue a → sci ≡ sciOf m → smi ≡ smiOf m
         → exit ≡ sets l at (fields k number value sci smi (m .state)) → exit ≡ putAt l at (entry k a m)
     put-there number value sci smi exit p q n v s i w =
         let fit : at + length (entry k a m) ≤ length l = omega (arith, e, entry-length k a m, p, q) in

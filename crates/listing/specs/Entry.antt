@@ -9,7 +9,7 @@ use Rattle.text.specs.Numbers.{digits, digitCount}
 use Rattle.text.specs.Parts.{tab, lf}
 use Rattle.machine.specs.Lines.{sciOf, smiOf}
 use Rattle.machine.specs.declared.Machine.{Machine}
-use Rattle.model.specs.Answer.{numberOf, valueOf}
+use Rattle.model.specs.Answer.{stepNumber, stepValue}
 use Rattle.model.specs.declared.Answer.{Answer}
 
 -- the header: "step", "answer", "value", "sci", "smi", "state"
@@ -48,11 +48,11 @@ fields k number value sci smi state = decimal k ++ (tab ∷ (decimal number ++ (
 
 -- a line: the step's number, its answer and value, and SCI, SMI and the state after it
 abbrev pub entry : ℕ → Answer → Machine → List ℕ
-entry k a m = fields k (numberOf a) (valueOf a) (sciOf m) (smiOf m) (m .state)
+entry k a m = fields k (stepNumber a) (stepValue a) (sciOf m) (smiOf m) (m .state)
 
 -- how long it is
 abbrev pub entryLength : ℕ → Answer → ℕ
-entryLength k a = digitCount 10 k + digitCount 10 (numberOf a) + 18
+entryLength k a = digitCount 10 k + digitCount 10 (stepNumber a) + 18
 
 -- a text written where it fits; else nothing is
 abbrev pub putAt : List ℕ → ℕ → List ℕ → List ℕ

@@ -6,7 +6,7 @@ use Prim.Native.Nat.{ℕ, _+_, _≤_, _<_}
 use native.Mathlib.Numerals.{add-one}
 use lib.ListN.{length, getD, drop, drop-of-length-le}
 use lib.Seq.{drop-cons}
-use Rattle.machine.specs.Cells.{hasBit}
+use Rattle.machine.specs.Status.{hasBit}
 use Rattle.machine.specs.Lines.{anyEnabled}
 
 module _ (ss es : List ℕ) (i : ℕ) where

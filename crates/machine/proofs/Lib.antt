@@ -1,4 +1,3 @@
 pub mod Accepted
 pub mod AnyEnabled
 pub mod Names
-pub mod ByteAlone

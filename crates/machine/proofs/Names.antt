@@ -5,7 +5,7 @@ use Prim.Native.Nat.{ℕ, _^_}
 use Rattle.cells.specs.Cells.{cells}
 use Rattle.cells.specs.declared.Status.{Status}
 use Rattle.cells.specs.declared.Status.the-variants as status
-use Rattle.machine.specs.Cells.{tmrBit, bmBit, gblBit, pwrbtnBit, slpbtnBit, rtcBit, pciexpWakeBit, wakBit}
+use Rattle.machine.specs.Status.{tmrBit, bmBit, gblBit, pwrbtnBit, slpbtnBit, rtcBit, pciexpWakeBit, wakBit}
 
 abbrev pub bitNamed : Status → ℕ
 bitNamed status.Tmr = tmrBit

@@ -1,6 +1,6 @@
 pub mod PowerOn
 pub mod SetUp
 pub mod Fields
-pub mod Cells
+pub mod Status
 pub mod Lines
 pub mod Sleep

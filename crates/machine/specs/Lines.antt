@@ -5,7 +5,7 @@ use Prim.Native.Nat.{ℕ}
 use lib.Bits.{bitAnd}
 use lib.Dec.{eqb}
 use Rattle.machine.specs.declared.Machine.{Machine}
-use Rattle.machine.specs.Cells.{hasBit}
+use Rattle.machine.specs.Status.{hasBit}
 
 -- S0
 unfoldable pub awake : Machine → Bool

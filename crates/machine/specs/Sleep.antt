@@ -3,14 +3,15 @@ use mathlib.Core.Bool.{Bool, false, not, cond, _&&_, _||_}
 use Prim.Native.Nat.{ℕ, _+_}
 use lib.Bits.{bitAnd, bitOr}
 use lib.Dec.{eqb, leb}
+use Rattle.acpi.specs.Fadt.{«RTC_S4»}
 use Rattle.cells.specs.Cells.{flagOf}
-use Rattle.bits.specs.Cell.{kept}
+use Rattle.bits.specs.Writes.{kept}
 use Rattle.machine.specs.PowerOn.{noBytes}
 use Rattle.machine.specs.declared.Machine.{Machine}
 use Rattle.machine.specs.declared.sleeping.WakeSource.{WakeSource}
 use Rattle.machine.specs.declared.sleeping.WakeSource.the-variants as source
 use Rattle.platform.specs.declared.settings.Settings.{Settings}
-use Rattle.machine.specs.Cells.{pwrbtnBit, slpbtnBit, rtcBit, wakBit, hasBit}
+use Rattle.machine.specs.Status.{pwrbtnBit, slpbtnBit, rtcBit, wakBit, hasBit}
 use Rattle.machine.specs.Fields.{withEvent, withGpe, withControl, withCommand, withArbDis, withSciEn, enter}
 use Rattle.machine.specs.Lines.{gpeEvent}
 
@@ -20,7 +21,7 @@ isSleeping state = leb 1 state && leb state 4
 
 -- the PM1 bits that wake the state where they are enabled: 8, 9, 10, "bit 10 in S4 only with flag 7"
 unfoldable pub wakeBits : Settings → ℕ → ℕ
-wakeBits s state = cond (not (eqb state 4) || flagOf (s .flags) 7) (pwrbtnBit + slpbtnBit + rtcBit) (pwrbtnBit + slpbtnBit)
+wakeBits s state = cond (not (eqb state 4) || flagOf (s .flags) «RTC_S4») (pwrbtnBit + slpbtnBit + rtcBit) (pwrbtnBit + slpbtnBit)
 
 -- "Wake from S1 to S4 .. WAK is set. .. Registers are kept.": whatever woke it, a status bit or more than one
 abbrev pub woken : WakeSource → Machine → Machine

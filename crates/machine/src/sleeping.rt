@@ -7,6 +7,7 @@ use crate::status::RTC;
 use crate::status::SLPBTN;
 use crate::status::WAK;
 use crate::status::has_bit;
+use acpi::RTC_S4;
 use bits::pick16;
 use platform::Settings;
 ghost use mathlib.Core.Path.{_≡_};
@@ -27,11 +28,11 @@ pub fn is_sleeping(state: u8) -> bool
     (1 <= state) & (state <= 4)
 }
 
-// The PM1 bits that wake the state where they are enabled: RTC in S4 only with flag 7.
+// The PM1 bits that wake the state where they are enabled: RTC in S4 only with RTC_S4.
 pub fn wake_bits(settings: Settings, state: u8) -> u16
     ensures { λ r. ⌜ r ≡ wakeBits settings state ⌝ }
 {
-    let rtc = (state != 4) | cells::flag(settings.flags, 7);
+    let rtc = (state != 4) | cells::flag(settings.flags, RTC_S4);
     pick16(rtc, PWRBTN + SLPBTN + RTC, PWRBTN + SLPBTN)
 }
 

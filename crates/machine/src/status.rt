@@ -1,31 +1,30 @@
-// The status bits by name, and whether one is set.
+// The PM1 status bits, each at its place in the register, and whether one is set.
+use acpi::BM_STS;
+use acpi::GBL_STS;
+use acpi::PCIEXP_WAKE_STS;
+use acpi::PWRBTN_STS;
+use acpi::RTC_STS;
+use acpi::SLPBTN_STS;
+use acpi::TMR_STS;
+use acpi::WAK_STS;
 ghost use mathlib.Core.Path.{_≡_};
-ghost use Rattle.machine.specs.Cells.{hasBit};
+ghost use Rattle.machine.specs.Status.{hasBit};
 
-pub const TMR: u16 = 0x0001;
+pub const TMR: u16 = 1 << TMR_STS;
 
-pub const BM: u16 = 0x0010;
+pub const BM: u16 = 1 << BM_STS;
 
-pub const GBL: u16 = 0x0020;
+pub const GBL: u16 = 1 << GBL_STS;
 
-pub const PWRBTN: u16 = 0x0100;
+pub const PWRBTN: u16 = 1 << PWRBTN_STS;
 
-pub const SLPBTN: u16 = 0x0200;
+pub const SLPBTN: u16 = 1 << SLPBTN_STS;
 
-pub const RTC: u16 = 0x0400;
+pub const RTC: u16 = 1 << RTC_STS;
 
-pub const PCIEXP_WAKE: u16 = 0x4000;
+pub const PCIEXP_WAKE: u16 = 1 << PCIEXP_WAKE_STS;
 
-pub const WAK: u16 = 0x8000;
-
-// The numbers of those that wake.
-pub const PWRBTN_STS: u8 = 8;
-
-pub const SLPBTN_STS: u8 = 9;
-
-pub const RTC_STS: u8 = 10;
-
-pub const PCIEXP_WAKE_STS: u8 = 14;
+pub const WAK: u16 = 1 << WAK_STS;
 
 pub fn has_bit(mask: u16, bit: u16) -> bool
     ensures { λ r. ⌜ r ≡ hasBit mask bit ⌝ }

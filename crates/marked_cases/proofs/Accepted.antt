@@ -3,13 +3,13 @@
 use mathlib.Core.Bool.{Bool, true, false}
 use mathlib.Core.Path.{_≡_, refl, _∙_, ap}
 use Rattle.lists.specs.Any.{any, anyTwo}
-use Rattle.bits.specs.Cell.{within}
+use Rattle.bits.specs.Writes.{within}
 use Rattle.cells.specs.Cells.{flagOf, bitAt, maskOf}
 use Rattle.sleep.specs.Pairs.{absent, outOfRange, samePair, shared}
 use Rattle.platform.specs.Answer.{firstFailing}
 use Rattle.platform.specs.Blocks.{present, holds, overlap, passesPorts}
-use Rattle.platform.specs.Cells.{statusCells, enableCells, wideTimer}
-use Rattle.platform.specs.Rules.{hardwareReduced, wrongBlockLength, wrongGpeLength, justOneZero, lengthRefused, misaligned, placeRefused, overlapRefused, gpeRefused, commandsRefused, homeless, homesRefused, sleepPairsRefused}
+use Rattle.platform.specs.Fitted.{statusCells, enableCells, wideTimer}
+use Rattle.platform.specs.Rules.{hardwareReduced, wrongBlockLength, wrongGpeLength, justOneZero, lengthRefused, misaligned, placeRefused, overlapRefused, gpeRefused, commandsRefused, homesWithoutBlock, homesRefused, sleepPairsRefused}
 use Rattle.platform.specs.declared.rules.SetUpAnswer.the-variants as answer
 use Rattle.fadt.specs.Fields.{dword, settingsOf}
 use Rattle.fadt.specs.Table.{tableShort, standsAt, noSignature, wrongTableLength, wrongSum}
@@ -61,7 +61,7 @@ module _ (wide : Bool) where
   commands-differ = refl
 
   homes-allowed : homesRefused (platform wide) ≡ false
-  unfolding homesRefused homeless within present
+  unfolding homesRefused homesWithoutBlock within present
   homes-allowed = refl
 
   pairs-allowed : sleepPairsRefused (platform wide) ≡ false

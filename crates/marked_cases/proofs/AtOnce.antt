@@ -9,10 +9,10 @@ use borrow.Author.Tests.{eqb-true}
 use lib.Dec.{eqb}
 use Rattle.lists.proofs.Tests.{and-left, and-right}
 use Rattle.clock.specs.AtOnce.{afterOf}
-use Rattle.platform.specs.Cells.{wideTimer}
+use Rattle.platform.specs.Fitted.{wideTimer}
 use Rattle.machine.specs.Lines.{awake}
 use Rattle.machine.specs.declared.Machine.{Machine}
-use Rattle.model.specs.Answer.{numberOf, valueOf}
+use Rattle.model.specs.Answer.{stepNumber, stepValue}
 use Rattle.model.specs.Events.{StatusBit, eventBit, clockOf, timed, doneBy, eventOf}
 use Rattle.model.specs.EventKinds.{EventKind, eventKind}
 use Rattle.model.specs.EventKinds as kind
@@ -99,8 +99,8 @@ same-registers a b e =
 unfoldable pub stepsHold : Machine → List Expected → Registers → Bool
 stepsHold m [] end = sameRegisters (registersOf m) end
 stepsHold m (x ∷ xs) end =
-    eqb (numberOf (answerTo m (x .step))) (x .number)
-    && (eqb (valueOf (answerTo m (x .step))) (x .value) && stepsHold (afterAtOnce m (x .step)) xs end)
+    eqb (stepNumber (answerTo m (x .step))) (x .number)
+    && (eqb (stepValue (answerTo m (x .step))) (x .value) && stepsHold (afterAtOnce m (x .step)) xs end)
 
 -- the test of a row
 abbrev pub rowHolds : Row → Bool
@@ -111,8 +111,8 @@ unfolding stepsHold Gives
 steps-hold m [] end e = same-registers (registersOf m) end e
 steps-hold m (x ∷ xs) end e =
     let a = answerTo m (x .step) in
-    let number = both (numberOf a) (x .number) _ e in
-    let value = both (valueOf a) (x .value) _ (number .1) in
+    let number = both (stepNumber a) (x .number) _ e in
+    let value = both (stepValue a) (x .value) _ (number .1) in
     (number .0, value .0, rw (after-at-once m (x .step)) at (steps-hold (afterAtOnce m (x .step)) xs end (value .1)))
 
 -- a row that passes holds

@@ -6,14 +6,16 @@ use mathlib.Core.Path.{_≡_, refl}
 use Rattle.lists.proofs.Tests.{and-left, and-right}
 use Rattle.lists.specs.Any.{firstAt}
 use Rattle.cells.specs.Cells.{flagOf, bitAt, maskOf}
-use Rattle.clock.specs.AtOnce.{overridden, ranOf, counterAfter, turnsIn, holdAfter}
+use Rattle.clock.specs.AtOnce.{offWithin, ranOf, counterAfter, turnsIn, holdAfter}
 use Rattle.platform.specs.Blocks.{present, holds}
-use Rattle.machine.specs.Cells.{hasBit, inStatus, inEnable, statusAfter, enableAfter, controlIn, coversLow, coversHigh, writtenBit}
+use Rattle.machine.specs.Status.{hasBit}
+use Rattle.registers.specs.Registers.{inStatus, inEnable, statusAfter, enableAfter, controlIn, coversLow, coversHigh, writtenBit}
 use Rattle.machine.specs.Lines.{awake}
 use Rattle.machine.specs.Sleep.{isSleeping}
 use Rattle.model.specs.Answer.{firstApplying}
-use Rattle.model.specs.Bus.{wrongWidth, dataTooWide, leadsNowhere, allowed, isTimer, commandLost, namesNone, readOf, setsSlpEn, typAfter, completes, bmRldAfter, writeOf}
-use Rattle.model.specs.Events.{inS5, pressOf, tmrRaised, timed, ticksOf, eventOf}
+use Rattle.model.specs.Bus.{wrongWidth, dataTooWide, leadsNowhere, allowed, isTimer, commandLost, readOf, writeOf}
+use Rattle.model.specs.Control.{namesNone, setsSlpEn, typAfter, completes, bmRldAfter}
+use Rattle.model.specs.Events.{inS5, pressOf, tmrRaised, timed, tickedBy, eventOf}
 use Rattle.model.specs.Ports.{registerAt, offsetAt}
 use Rattle.machine.specs.declared.Machine.{Machine}
 use Rattle.model.specs.Step.{answerTo, after, stepOf}
@@ -37,7 +39,7 @@ each-holds (x ∷ rs) e r (List·Memᴰ·tail at) = each-holds rs (and-right (ro
 
 -- the test over the whole list
 pub rows-pass : allHold rows ≡ true
-unfolding allHold stepsHold sameRegisters afterAtOnce answerTo firstApplying awake wrongWidth dataTooWide leadsNowhere allowed isTimer commandLost namesNone readOf writeOf setsSlpEn typAfter completes bmRldAfter registerAt offsetAt firstAt holds present hasBit inStatus inEnable statusAfter enableAfter controlIn coversLow coversHigh writtenBit maskOf flagOf bitAt timed tmrRaised overridden ranOf counterAfter turnsIn holdAfter pressOf inS5 isSleeping eventOf
+unfolding allHold stepsHold sameRegisters afterAtOnce answerTo firstApplying awake wrongWidth dataTooWide leadsNowhere allowed isTimer commandLost namesNone readOf writeOf setsSlpEn typAfter completes bmRldAfter registerAt offsetAt firstAt holds present hasBit inStatus inEnable statusAfter enableAfter controlIn coversLow coversHigh writtenBit maskOf flagOf bitAt timed tmrRaised offWithin ranOf counterAfter turnsIn holdAfter pressOf inS5 isSleeping eventOf
 rows-pass = refl
 
 -- the marked cases: what each row of the list claims of `stepOf` holds
@@ -46,7 +48,7 @@ marked-cases = each-holds rows rows-pass
 
 -- "zero ticks: nothing", of any machine and every part of it
 pub zero-ticks : (m : Machine) → stepOf m (ticks 0) ≡ record { answer = answer.Done 0; machine = m }
-unfolding answerTo firstApplying after eventOf ticksOf
+unfolding answerTo firstApplying after eventOf tickedBy
 zero-ticks m = refl
 
 -- ---- the settings

@@ -7,7 +7,7 @@ use Prim.Native.Nat.{ℕ}
 use Rattle.machine.specs.declared.Machine.{Machine}
 use Rattle.machine.specs.Fields.{withEvent, withButton, withSciEn, withTime}
 use Rattle.machine.specs.PowerOn.{powerOn}
-use Rattle.model.specs.Answer.{numberOf, valueOf}
+use Rattle.model.specs.Answer.{stepNumber, stepValue}
 use Rattle.model.specs.Step.{stepOf}
 use Rattle.model.specs.declared.Event.the-variants as event
 use Rattle.model.specs.declared.Step.{Step}
@@ -44,8 +44,8 @@ registersOf m =
 unfoldable pub Gives : Machine → List Expected → Registers → Type 0
 Gives m [] end = registersOf m ≡ end
 Gives m (x ∷ xs) end =
-    (numberOf (stepOf m (x .step) .answer) ≡ x .number)
-    × (valueOf (stepOf m (x .step) .answer) ≡ x .value)
+    (stepNumber (stepOf m (x .step) .answer) ≡ x .number)
+    × (stepValue (stepOf m (x .step) .answer) ≡ x .value)
     × Gives (stepOf m (x .step) .machine) xs end
 
 -- what a row claims

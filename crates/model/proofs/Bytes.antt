@@ -15,11 +15,11 @@ use lib.Pow.{pow-lt, pow-pos}
 use lib.Seq.{getD-drop, getD-set-other}
 use Rattle.lists.specs.Any.{any}
 use Rattle.lists.proofs.Tests.{or-left, or-right, and-left, and-right}
-use Rattle.bits.proofs.Cells.{kept-lt}
+use Rattle.bits.proofs.Writes.{kept-lt}
 use Rattle.platform.specs.Blocks.{present}
 use Rattle.platform.specs.Legal.{HasGpeLength, HasNone}
 use Rattle.platform.specs.declared.block.Block.{Block}
-use Rattle.machine.specs.Cells.{gpeHalf, gpeSts, gpeEn, inGpeStatus, gpeStsAfter, gpeEnAfter}
+use Rattle.registers.specs.Registers.{gpeHalf, gpeSts, gpeEn, inGpeStatus, gpeStsAfter, gpeEnAfter}
 use Rattle.machine.specs.PowerOn.{gpeBytes, noBytes}
 use Rattle.machine.specs.declared.Machine.{Machine}
 use Rattle.model.specs.Events.{withBit}

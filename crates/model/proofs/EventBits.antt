@@ -6,8 +6,8 @@ use mathlib.Core.Path.{_≡_}
 use Prim.Native.Nat.{ℕ, _<_, _^_}
 use lib.Dec.{lit<}
 use lib.Pow.{pow-lt}
-use Rattle.bits.specs.Cell.{within}
-use Rattle.platform.specs.Cells.{statusCells}
+use Rattle.bits.specs.Writes.{within}
+use Rattle.platform.specs.Fitted.{statusCells}
 use Rattle.platform.specs.declared.settings.Settings.{Settings}
 use Rattle.model.specs.Events.{StatusBit, pm1, gpe, eventBit, pm1Mask, eventMask}
 use Rattle.model.specs.EventKinds.{EventKind, eventKind}

@@ -9,18 +9,18 @@ use borrow.Author.Tests.{eqb-true, eqb-false, eq-eqb}
 use lib.Bits.{bitAnd, bitOr, and-zero-l, and-comm, and-self}
 use lib.Dec.{eqb, lit<}
 use Rattle.lists.specs.Any.{any}
-use Rattle.bits.specs.Cell.{within}
+use Rattle.bits.specs.Writes.{within}
 use Rattle.bits.specs.Digit.{digit}
 use Rattle.bits.proofs.Algebra.{and-swap, masked-or}
-use Rattle.bits.proofs.Cells.{within-masked}
+use Rattle.bits.proofs.Writes.{within-masked}
 use Rattle.bits.proofs.Digits.{digit-and, digit-own-bit, digit-other-bit, same-digits}
 use Rattle.cells.specs.Cells.{isIn, cells}
 use Rattle.cells.specs.declared.Column.the-variants as column
 use Rattle.cells.proofs.Masks.{one, mask-digit}
 use Rattle.platform.specs.Blocks.{present}
-use Rattle.platform.specs.Cells.{statusCells}
+use Rattle.platform.specs.Fitted.{statusCells}
 use Rattle.platform.specs.declared.settings.Settings.{Settings}
-use Rattle.machine.specs.Cells.{tmrBit, bmBit, gblBit, wakBit, hasBit}
+use Rattle.machine.specs.Status.{tmrBit, bmBit, gblBit, wakBit, hasBit}
 use Rattle.model.specs.Events.{fits, tmrRaised}
 use Rattle.model.proofs.LinesExactly.{BothSet, has-bit-exactly}
 

@@ -15,33 +15,35 @@ use lib.Pow.{pow-pos}
 use lib.Seq.{getD-drop}
 use Rattle.lists.specs.Any.{any, firstAt}
 use Rattle.lists.proofs.Tests.{or-left, and-left, and-right}
-use Rattle.bits.specs.Cell.{kept, takenBy, within}
+use Rattle.bits.specs.Writes.{kept, takenBy, within}
 use Rattle.cells.specs.Cells.{cells}
 use Rattle.sleep.specs.Pairs.{absent, named, firstFrom, stateOf}
-use Rattle.clock.specs.AtOnce.{overridden as overriddenIn, ranOf, counterAfter, holdAfter, afterOf}
+use Rattle.clock.specs.AtOnce.{offWithin as overriddenIn, ranOf, counterAfter, holdAfter, afterOf}
 use Rattle.clock.specs.Clock.{counterBits}
 use Rattle.platform.specs.Blocks.{present, holds, noBlock}
-use Rattle.platform.specs.Cells.{statusCells, enableCells, wideTimer}
+use Rattle.platform.specs.Fitted.{statusCells, enableCells, wideTimer}
 use Rattle.platform.specs.Legal.{blockAt}
 use Rattle.platform.specs.Rules.{smiBlock, blockCount, blocksOf}
 use Rattle.platform.specs.declared.block.Block.{Block}
 use Rattle.platform.specs.declared.settings.Settings.{Settings}
 use Rattle.platform.proofs.Legal.{holds-from}
-use Rattle.machine.specs.Cells.{pwrbtnBit, enableIn, covered, placed, inStatus, inEnable, onesIn, statusAfter, enableAfter, hasPm1bCnt, coversHigh, writtenBit}
+use Rattle.machine.specs.Status.{pwrbtnBit}
+use Rattle.registers.specs.Registers.{enableIn, covered, placed, inStatus, inEnable, onesIn, statusAfter, enableAfter, hasPm1bCnt, coversHigh, writtenBit}
 use Rattle.machine.specs.Fields.{withEvent, withControl, withCommand, withButton, withArbDis, withSciEn, withTime, enter}
 use Rattle.machine.specs.Lines.{awake}
 use Rattle.machine.specs.Sleep.{isSleeping, woken, wokenIf, pending, completed, restarted}
 use Rattle.machine.specs.declared.Machine.{Machine}
 use Rattle.machine.specs.declared.sleeping.WakeSource.{WakeSource}
 use Rattle.machine.specs.declared.sleeping.WakeSource.the-variants as source
-use Rattle.model.specs.Answer.{Line, firstApplying}
-use Rattle.model.specs.Bus.{leadsNowhere, completes, namedState, typAfter, armedAfter, controlled, controlWritten, gpeWritten, writeOf}
-use Rattle.model.specs.Events.{StatusBit, pm1, pm1Mask, sourceOf, eventMask, eventSource, fits, fitted, raised, inS5, pressOf, releaseOf, signalOf, pcieWakes, pcieWakeOf, inGpe0, inGpe1, generalRaised, generalEnabled, generalOf, clockOf, tmrRaised, timed, ticksOf, doneBy, eventOf}
+use Rattle.model.specs.Answer.{Refusal, firstApplying}
+use Rattle.model.specs.Bus.{leadsNowhere, gpeWritten, writeOf}
+use Rattle.model.specs.Control.{completes, namedState, typAfter, armedAfter, controlled, controlWritten}
+use Rattle.model.specs.Events.{StatusBit, pm1, pm1Mask, sourceOf, eventMask, eventSource, fits, fitted, raised, inS5, pressOf, releaseOf, signalOf, pcieWakes, pcieWakeOf, inGpe0, inGpe1, generalRaised, generalEnabled, generalOf, clockOf, tmrRaised, timed, tickedBy, doneBy, eventOf}
 use Rattle.model.specs.Firmware.{isAcpiEnable, enablesAfter, sciEnAfter}
 use Rattle.model.specs.EventKinds.{EventKind}
 use Rattle.model.specs.Legal.{absentPair, stateAllowed}
 use Rattle.model.specs.Ports.{registers, placeAt, registerAt, offsetAt}
-use Rattle.model.specs.Step.{registerOf, offsetOf, unfitted, linesBy, linesOf, doneOf, answerTo, accepted, after}
+use Rattle.model.specs.Step.{registerOf, offsetOf, unfitted, refusalsBy, refusalsOf, doneOf, answerTo, accepted, after}
 use Rattle.model.specs.declared.Answer.the-variants as answer
 use Rattle.model.specs.declared.Event.{Event}
 use Rattle.model.specs.declared.Event.the-variants as event
@@ -276,11 +278,11 @@ taken-within m e = go (isAcpiEnable m) (m .«sci_en»)
     go false u = e
 
 -- no line of an accepted step applies
-passes : (m : Machine) (s : Step) → accepted (answerTo m s) ≡ true → (k : ℕ) → rowApplies k (linesOf m s) ≡ false
+passes : (m : Machine) (s : Step) → accepted (answerTo m s) ≡ true → (k : ℕ) → rowApplies k (refusalsOf m s) ≡ false
 passes m s e = zero-exactly m s .0 (eqb-true _ _ e)
 
 -- an accepted event that asks to be fitted is
-first-fits : (m : Machine) (bit : StatusBit) (ls : List Line) → accepted (firstApplying (unfitted m bit ∷ ls) (answer.Done 0)) ≡ true
+first-fits : (m : Machine) (bit : StatusBit) (ls : List Refusal) → accepted (firstApplying (unfitted m bit ∷ ls) (answer.Done 0)) ≡ true
     → fits (m .settings) (pm1Mask bit) ≡ true
 unfolding firstApplying
 first-fits m bit ls = go (fits (m .settings) (pm1Mask bit))
@@ -330,7 +332,7 @@ module _ (P : Machine → Type 0) (keeps : Keeps P) where
       pick P (inS5 m) m (wokenIf by (generalEnabled m k) (generalRaised m k)) (λ e. p)
       (λ e. woken-kept by (generalEnabled m k) (generalRaised m k) (keeps .general m k h p))
 
-  ticks-kept : (m : Machine) (n : ℕ) → P m → P (ticksOf n m)
+  ticks-kept : (m : Machine) (n : ℕ) → P m → P (tickedBy n m)
   unfolding timed
   ticks-kept m n p =
       let t = afterOf (wideTimer (m .settings)) (m .button) (m .settings .«power_override») n (clockOf m) in
@@ -343,7 +345,7 @@ module _ (P : Machine → Type 0) (keeps : Keeps P) where
       (λ o. keeps .raises (ticked m n) bits w (keeps .ticks m n up o p)))
       (λ e. p))
 
-  kind-kept : {bit : StatusBit} {k : EventKind} → Pair bit k → (m : Machine) → accepted (firstApplying (linesBy m bit k) (answer.Done 0)) ≡ true
+  kind-kept : {bit : StatusBit} {k : EventKind} → Pair bit k → (m : Machine) → accepted (firstApplying (refusalsBy m bit k) (answer.Done 0)) ≡ true
       → P m → P (doneBy m bit k)
   unfolding answerTo any
   kind-kept pair.press m a p = press-kept m (first-fits m (pm1 8) _ a) p

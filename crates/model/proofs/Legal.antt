@@ -11,16 +11,17 @@ use borrow.Author.Tests.{eqb-false, ne-eqb, ltb-true, lt-ltb, leb-true, leb-fals
 use lib.Dec.{eqb, ltb, leb, lit<, lit≤}
 use lib.Pow.{pow-pos}
 use Rattle.lists.proofs.Tests.{and-left, and-right, and-other}
-use Rattle.clock.specs.AtOnce.{overridden as overriddenIn, ranOf, counterAfter, holdAfter}
+use Rattle.clock.specs.AtOnce.{offWithin as overriddenIn, ranOf, counterAfter, holdAfter}
 use Rattle.clock.specs.Clock.{counterBits, holdLimit}
 use Rattle.platform.specs.Blocks.{present}
-use Rattle.platform.specs.Cells.{statusCells, enableCells, wideTimer}
+use Rattle.platform.specs.Fitted.{statusCells, enableCells, wideTimer}
 use Rattle.platform.specs.Legal.{legalSettings, Guaranteed}
 use Rattle.platform.specs.Rules.{eventCount}
 use Rattle.platform.specs.declared.rules.SetUpAnswer.the-variants as answer
 use Rattle.platform.specs.declared.settings.Settings.{Settings}
 use Rattle.platform.proofs.Legal.{legal-guaranteed}
-use Rattle.machine.specs.Cells.{wakBit, hasPm1bCnt}
+use Rattle.machine.specs.Status.{wakBit}
+use Rattle.registers.specs.Registers.{hasPm1bCnt}
 use Rattle.machine.specs.Lines.{awake}
 use Rattle.machine.specs.PowerOn.{powerOn}
 use Rattle.machine.specs.SetUp.{setUpOf}

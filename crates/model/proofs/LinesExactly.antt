@@ -17,7 +17,8 @@ use Rattle.bits.specs.Digit.{digit}
 use Rattle.bits.proofs.Digits.{digit-le, digit-zero, digit-and}
 use Rattle.bits.proofs.Algebra.{disjoint-digit}
 use Rattle.machine.specs.declared.Machine.{Machine}
-use Rattle.machine.specs.Cells.{hasBit, gpeSts, gpeEn}
+use Rattle.machine.specs.Status.{hasBit}
+use Rattle.registers.specs.Registers.{gpeSts, gpeEn}
 use Rattle.machine.specs.Lines.{awake, anyEnabled, gpeEvent, pm1Event, eventOutput, sciOf, smiOf}
 
 -- ---- what the lines look for

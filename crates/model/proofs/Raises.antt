@@ -12,10 +12,10 @@ use lib.Dec.{eqb, ltb, leb}
 use lib.ListN.{length, getD, set, replicate, List·getD-eq-default}
 use lib.Pow.{pow-pos, pow-lt}
 use lib.Seq.{set-out, getD-set-same, getD-set-other}
-use Rattle.bits.specs.Cell.{kept, clearedBy, lane}
+use Rattle.bits.specs.Writes.{kept, clearedBy, lane}
 use Rattle.bits.proofs.Digits.{below-or-beyond}
 use Rattle.bits.proofs.Algebra.{or-assoc}
-use Rattle.bits.proofs.Cells.{masked-lt, kept-lt, kept-whole, raise-after-kept}
+use Rattle.bits.proofs.Writes.{masked-lt, kept-lt, kept-whole, raise-after-kept}
 use Rattle.bits.proofs.Lanes.{laneMask-lt}
 use Rattle.clock.specs.declared.Clock.{Clock}
 use Rattle.platform.specs.Rules.{eventCount}
@@ -26,16 +26,18 @@ use Rattle.machine.specs.declared.Machine.{Machine}
 use Rattle.machine.specs.declared.sleeping.WakeSource.{WakeSource}
 use Rattle.machine.specs.declared.sleeping.WakeSource.the-variants as source
 use Rattle.model.specs.Answer.{firstApplying}
-use Rattle.model.specs.Bus.{completes, namedState, controlled, controlWritten, gpeWritten, writeOf}
-use Rattle.machine.specs.Cells.{tmrBit, pwrbtnBit, wakBit, hasBit, laneAt, oneByte, placed, covered, clearable, inStatus, onesIn, statusAfter, gpeSts, inGpeStatus, gpeStsAfter}
-use Rattle.model.specs.Events.{StatusBit, pm1, gpe, eventBit, pm1Mask, sourceOf, eventMask, eventSource, fits, raised, inS5, pressOf, signalWakes, signalOf, pcieWakes, pcieWakeOf, inGpe0, inGpe1, withBit, generalRaised, generalEnabled, generalOf, clockAfter, tmrRaised, timed, ticksOf, doneBy, eventOf}
+use Rattle.model.specs.Bus.{gpeWritten, writeOf}
+use Rattle.model.specs.Control.{completes, namedState, controlled, controlWritten}
+use Rattle.machine.specs.Status.{tmrBit, pwrbtnBit, wakBit, hasBit}
+use Rattle.registers.specs.Registers.{laneAt, oneByte, placed, covered, clearable, inStatus, onesIn, statusAfter, gpeSts, inGpeStatus, gpeStsAfter}
+use Rattle.model.specs.Events.{StatusBit, pm1, gpe, eventBit, pm1Mask, sourceOf, eventMask, eventSource, fits, raised, inS5, pressOf, signalWakes, signalOf, pcieWakes, pcieWakeOf, inGpe0, inGpe1, withBit, generalRaised, generalEnabled, generalOf, clockAfter, tmrRaised, timed, tickedBy, doneBy, eventOf}
 use Rattle.machine.specs.Fields.{withTime, enter}
 use Rattle.machine.specs.Lines.{awake}
 use Rattle.model.specs.Raises.{Change, unchanged, clearing, raising, bitsIf, wakIf, pressChange, signalChange, pcieWakeChange, ticksChange, changeBy, eventChange, wakesAtOnce, writeChange, ruleChange, ifAccepted, raises, clears, liesIn, gpeMask, isPress, gpeChangeBy, gpeEventChange, gpeOnes, gpeRuleChange, gpeRaises, gpeClears}
 use Rattle.machine.specs.Sleep.{isSleeping, pending, woken, wokenIf, completed, restarted, overridden}
 use Rattle.model.specs.EventKinds.{EventKind, eventKind}
 use Rattle.model.specs.EventKinds as kind
-use Rattle.model.specs.Step.{registerOf, offsetOf, linesBy, doneOf, answerTo, accepted, after}
+use Rattle.model.specs.Step.{registerOf, offsetOf, refusalsBy, doneOf, answerTo, accepted, after}
 use Rattle.model.specs.declared.Answer.the-variants as answer
 use Rattle.model.specs.declared.Event.{Event}
 use Rattle.model.specs.declared.Event.the-variants as event
@@ -337,7 +339,7 @@ module _ (b : Bool) where
       let x = withTime (raised m (tmrRaised (m .settings) (t .turns))) (t .counter) (t .hold) in
       bytes-if (t .off) (overridden x) x m refl refl
 
-  ticks-bytes : (n : ℕ) (m : Machine) → gpeSts (ticksOf n m) b ≡ gpeSts m b
+  ticks-bytes : (n : ℕ) (m : Machine) → gpeSts (tickedBy n m) b ≡ gpeSts m b
   ticks-bytes n m =
       ap (λ x. gpeSts x b) (ticks-at-once n m) ∙ bytes-if (awake m) (timed m (clockAfter m n)) m m (timed-bytes m (clockAfter m n)) refl
 
@@ -542,7 +544,7 @@ in-gpe1-lt s k e = go (leb (s .«gpe1_base») k) e
 
 -- an event is accepted, by its bit and its kind
 abbrev acceptedBy : Machine → StatusBit → EventKind → Bool
-acceptedBy m bit k = accepted (firstApplying (linesBy m bit k) (answer.Done 0))
+acceptedBy m bit k = accepted (firstApplying (refusalsBy m bit k) (answer.Done 0))
 
 general-accepted : (m : Machine) (k : ℕ) → acceptedBy m (gpe k) (kind.general k) ≡ (inGpe0 (m .settings) k || inGpe1 (m .settings) k)
 unfolding firstApplying

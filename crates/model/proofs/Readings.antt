@@ -12,10 +12,10 @@ use Rattle.bits.proofs.Digits.{digit-or}
 use Rattle.clock.specs.AtOnce.{ranOf, counterAfter}
 use Rattle.clock.specs.Clock.{counterBits, holdLimit}
 use Rattle.machine.specs.declared.Machine.{Machine}
-use Rattle.platform.specs.Cells.{wideTimer}
-use Rattle.model.specs.Answer.{valueOf, firstApplying}
+use Rattle.platform.specs.Fitted.{wideTimer}
+use Rattle.model.specs.Answer.{stepValue, firstApplying}
 use Rattle.model.specs.Bus.{timerRegister, readOf}
-use Rattle.model.specs.Events.{eventSource, inS5, pressOf, ticksOf, eventOf}
+use Rattle.model.specs.Events.{eventSource, inS5, pressOf, tickedBy, eventOf}
 use Rattle.model.specs.Legal.{counterLegal}
 use Rattle.machine.specs.Lines.{awake}
 use Rattle.machine.specs.Sleep.{isSleeping, woken, restarted}
@@ -36,13 +36,13 @@ use Rattle.model.proofs.Ticks.{ticks-add, ticks-counter, held-state}
 
 -- the counter modulo its size
 pub timer-read : (m : Machine) (a : Access) → registerOf m a ≡ register.PmTmr → accepted (answerTo m (step.Read a)) ≡ true
-    → valueOf (answerTo m (step.Read a)) ≡ timerRegister m
+    → stepValue (answerTo m (step.Read a)) ≡ timerRegister m
 unfolding readOf
 timer-read m a r e = accepted-value m (step.Read a) e ∙ rw r refl
 
 -- a legal machine's counter is below its size, and is read as it is
 pub timer-read-counter : (m : Machine) (a : Access) → counterLegal m ≡ true → registerOf m a ≡ register.PmTmr
-    → accepted (answerTo m (step.Read a)) ≡ true → valueOf (answerTo m (step.Read a)) ≡ m .counter
+    → accepted (answerTo m (step.Read a)) ≡ true → stepValue (answerTo m (step.Read a)) ≡ m .counter
 unfolding counterLegal
 timer-read-counter m a l r e = timer-read m a r e ∙ mod-eq-of-lt (ltb-true (m .counter) _ l)
 
@@ -55,7 +55,7 @@ abbrev pub ticks : ℕ → Step
 ticks n = step.Event (event.Ticks n)
 
 -- ticks are never refused
-pub ticks-done : (m : Machine) (n : ℕ) → after m (ticks n) ≡ ticksOf n m
+pub ticks-done : (m : Machine) (n : ℕ) → after m (ticks n) ≡ tickedBy n m
 unfolding after answerTo firstApplying eventOf
 ticks-done m n = refl
 
@@ -65,7 +65,7 @@ pub timer-read-after-ticks : (m : Machine) (n : ℕ) (a : Access)
     → awake m ≡ true
     → registerOf m a ≡ register.PmTmr
     → accepted (answerTo (after m (ticks n)) (step.Read a)) ≡ true
-    → valueOf (answerTo (after m (ticks n)) (step.Read a))
+    → stepValue (answerTo (after m (ticks n)) (step.Read a))
     ≡ counterAfter (counterBits (wideTimer (m .settings))) (m .counter) (ranOf (m .button) (m .settings .«power_override») (m .hold) n)
 timer-read-after-ticks m n a l up r e =
     let ticked = after m (ticks n) in
@@ -116,5 +116,5 @@ module _ (m : Machine) (h : m .state ≤ 5) (fitted : m .settings .«power_overr
   -- .. and one more
   pub press-then-one-tick-more : after (after (after m press) (ticks 14318179)) (ticks 1) .state ≡ 5
   press-then-one-tick-more =
-      rw (ticks-done (after m press) 14318179, ticks-done (ticksOf 14318179 (after m press)) 1, ← ticks-add 14318179 1 (after m press))
+      rw (ticks-done (after m press) 14318179, ticks-done (tickedBy 14318179 (after m press)) 1, ← ticks-add 14318179 1 (after m press))
       (rw (ticks-done (after m press) 14318180) at (press-then-ticks 14318180))

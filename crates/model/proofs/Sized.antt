@@ -5,7 +5,7 @@ use mathlib.Core.List.{List}
 use mathlib.Core.Path.{_≡_, _∙_}
 use Prim.Native.Nat.{ℕ}
 use lib.ListN.{length, length-set}
-use Rattle.machine.specs.Cells.{gpeSts, inGpeStatus, gpeStsAfter}
+use Rattle.registers.specs.Registers.{gpeSts, inGpeStatus, gpeStsAfter}
 use Rattle.machine.specs.PowerOn.{gpeBytes}
 use Rattle.machine.specs.declared.Machine.{Machine}
 use Rattle.model.specs.Events.{inGpe0, generalRaised}

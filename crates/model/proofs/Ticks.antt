@@ -10,15 +10,15 @@ use borrow.Author.Tests.{eqb-true, eqb-false, eq-eqb, ne-eqb, lt-leb, le-leb}
 use lib.Bits.{bitOr, or-zero-l, or-zero-r, or-self}
 use lib.Dec.{eqb, leb}
 use Rattle.bits.proofs.Algebra.{or-assoc}
-use Rattle.clock.specs.AtOnce.{overridden as overriddenIn, ranOf, counterAfter, afterOf}
+use Rattle.clock.specs.AtOnce.{offWithin as overriddenIn, ranOf, counterAfter, afterOf}
 use Rattle.clock.specs.Clock.{counterBits, holdLimit, tickOf, ticksOf as clockTicks}
 use Rattle.clock.specs.declared.Clock.{Clock}
 use Rattle.clock.proofs.ClosedForm.{ticks-at-once as clock-ticks-at-once}
 use Rattle.machine.specs.declared.Machine.{Machine}
-use Rattle.platform.specs.Cells.{wideTimer}
+use Rattle.platform.specs.Fitted.{wideTimer}
 use Rattle.platform.specs.declared.settings.Settings.{Settings}
-use Rattle.machine.specs.Cells.{tmrBit}
-use Rattle.model.specs.Events.{fits, clockOf, clockAfter, tmrRaised, timed, tickedOnce, ticksOf}
+use Rattle.machine.specs.Status.{tmrBit}
+use Rattle.model.specs.Events.{fits, clockOf, clockAfter, tmrRaised, timed, tickedOnce, tickedBy}
 use Rattle.machine.specs.Fields.{withEvent, withTime}
 use Rattle.machine.specs.Lines.{awake}
 use Rattle.machine.specs.Sleep.{overridden}
@@ -85,37 +85,37 @@ module _ (m : Machine) (up : awake m ≡ true) where
       rw up (ap (λ (x : ℕ). ended m x (t .counter) (t .hold) (t .off)) (status-next (m .settings) (m .«pm1_sts») u _))
 
   -- the machine's ticks after the clock's are the clock's
-  ticks-timed : (n : ℕ) (t : Clock) → ticksOf n (timed m t) ≡ timed m (clockRun m n t)
-  unfolding ticksOf clockTicks
+  ticks-timed : (n : ℕ) (t : Clock) → tickedBy n (timed m t) ≡ timed m (clockRun m n t)
+  unfolding tickedBy clockTicks
   ticks-timed zero t = refl
-  ticks-timed (suc n) t = ap (ticksOf n) (tick-timed (t .counter) (t .turns) (t .hold) (t .off)) ∙ ticks-timed n (clockTick m t)
+  ticks-timed (suc n) t = ap (tickedBy n) (tick-timed (t .counter) (t .turns) (t .hold) (t .off)) ∙ ticks-timed n (clockTick m t)
 
 -- ---- n ticks
 
 -- "Outside S0 ticks change nothing."
-pub ticks-asleep : (n : ℕ) (m : Machine) → awake m ≡ false → ticksOf n m ≡ m
-unfolding ticksOf tickedOnce
+pub ticks-asleep : (n : ℕ) (m : Machine) → awake m ≡ false → tickedBy n m ≡ m
+unfolding tickedBy tickedOnce
 ticks-asleep zero m e = refl
 ticks-asleep (suc n) m e = rw e (ticks-asleep n m e)
 
-pub ticks-awake : (n : ℕ) (m : Machine) → awake m ≡ true → ticksOf n m ≡ timed m (clockAfter m n)
-ticks-awake n m up = ap (ticksOf n) (sym (timed-none m)) ∙ ticks-timed m up n (clockOf m)
+pub ticks-awake : (n : ℕ) (m : Machine) → awake m ≡ true → tickedBy n m ≡ timed m (clockAfter m n)
+ticks-awake n m up = ap (tickedBy n) (sym (timed-none m)) ∙ ticks-timed m up n (clockOf m)
 
 -- "Tick, n times": all of them at once
 pub ticks-at-once : (n : ℕ) (m : Machine)
-    → ticksOf n m
+    → tickedBy n m
     ≡ cond (awake m)
     (timed m (clockTicks (wideTimer (m .settings)) (m .button) (m .settings .«power_override») n (clockOf m)))
     m
 ticks-at-once n m = go (awake m) refl
   where
-    go : (t : Bool) → awake m ≡ t → ticksOf n m ≡ cond t (timed m (clockAfter m n)) m
+    go : (t : Bool) → awake m ≡ t → tickedBy n m ≡ cond t (timed m (clockAfter m n)) m
     go true e = ticks-awake n m e
     go false e = ticks-asleep n m e
 
 -- a + b ticks are a and then b
-pub ticks-add : (a b : ℕ) (m : Machine) → ticksOf (a + b) m ≡ ticksOf b (ticksOf a m)
-unfolding ticksOf
+pub ticks-add : (a b : ℕ) (m : Machine) → tickedBy (a + b) m ≡ tickedBy b (tickedBy a m)
+unfolding tickedBy
 ticks-add zero b m = rw zero-add
 ticks-add (suc a) b m = rw suc-add (ticks-add a b (tickedOnce m))
 
@@ -144,7 +144,7 @@ module _ (m : Machine) (t : Clock) where
   timed-counter = cond-ap (λ (x : Machine). x .counter) (t .off) _ _ ∙ cond-same (t .off) (t .counter)
 
 -- ticks change no setting
-pub ticks-settings : (n : ℕ) (m : Machine) → ticksOf n m .settings ≡ m .settings
+pub ticks-settings : (n : ℕ) (m : Machine) → tickedBy n m .settings ≡ m .settings
 ticks-settings n m = rw (ticks-at-once n m, cond-ap (λ (x : Machine). x .settings) (awake m), timed-settings, cond-same)
 
 module _ (n : ℕ) (m : Machine) where
@@ -152,17 +152,17 @@ module _ (n : ℕ) (m : Machine) where
   clock-closed-form = clock-ticks-at-once (wideTimer (m .settings)) (m .button) (m .settings .«power_override») n (clockOf m) refl
 
   -- the same with no recursion over n
-  pub ticks-closed-form : ticksOf n m
+  pub ticks-closed-form : tickedBy n m
       ≡ cond (awake m) (timed m (afterOf (wideTimer (m .settings)) (m .button) (m .settings .«power_override») n (clockOf m))) m
   ticks-closed-form = rw (ticks-at-once n m, clock-closed-form)
 
   module _ (up : awake m ≡ true) where
     -- S5 where one of the ticks is the override, else S0 still
-    pub ticks-state : ticksOf n m .state ≡ cond (overriddenIn (m .button) (m .settings .«power_override») (m .hold) n) 5 0
+    pub ticks-state : tickedBy n m .state ≡ cond (overriddenIn (m .button) (m .settings .«power_override») (m .hold) n) 5 0
     ticks-state = rw (ticks-awake n m up, timed-state, clock-closed-form, awake-exactly m .0 up)
 
     -- the counter has gone on by the ticks that ran
-    pub ticks-counter : ticksOf n m .counter
+    pub ticks-counter : tickedBy n m .counter
         ≡ counterAfter (counterBits (wideTimer (m .settings))) (m .counter) (ranOf (m .button) (m .settings .«power_override») (m .hold) n)
     ticks-counter = rw (ticks-awake n m up, timed-counter, clock-closed-form)
 
@@ -170,12 +170,12 @@ module _ (n : ℕ) (m : Machine) where
 
 module _ (m : Machine) (up : awake m ≡ true) (start : m .hold ≡ 0) (down : m .button ≡ true) (fitted : m .settings .«power_override» ≡ true) where
   -- "The tick that reaches this .. enters S5": the 14,318,180th
-  pub held-state : (n : ℕ) → ticksOf n m .state ≡ cond (leb holdLimit n) 5 0
+  pub held-state : (n : ℕ) → tickedBy n m .state ≡ cond (leb holdLimit n) 5 0
   unfolding overriddenIn
   held-state n = rw (ticks-state n m up, start, down, fitted, zero-add)
 
-  pub held-below-limit : (n : ℕ) → n < holdLimit → ticksOf n m .state ≡ 0
+  pub held-below-limit : (n : ℕ) → n < holdLimit → tickedBy n m .state ≡ 0
   held-below-limit n l = rw (held-state n, lt-leb holdLimit n l)
 
-  pub held-from-limit : (n : ℕ) → holdLimit ≤ n → ticksOf n m .state ≡ 5
+  pub held-from-limit : (n : ℕ) → holdLimit ≤ n → tickedBy n m .state ≡ 5
   held-from-limit n l = rw (held-state n, le-leb holdLimit n l)

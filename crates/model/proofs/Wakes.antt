@@ -14,7 +14,7 @@ use Rattle.bits.specs.Digit.{digit}
 use Rattle.bits.proofs.Digits.{digit-zero}
 use Rattle.cells.specs.Cells.{flagOf}
 use Rattle.platform.specs.declared.settings.Settings.{Settings}
-use Rattle.machine.specs.Cells.{slpbtnBit, rtcBit, hasBit}
+use Rattle.machine.specs.Status.{slpbtnBit, rtcBit, hasBit}
 use Rattle.machine.specs.Lines.{gpeEvent}
 use Rattle.machine.specs.Sleep.{wakeBits, pending}
 use Rattle.machine.specs.declared.Machine.{Machine}

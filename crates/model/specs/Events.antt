@@ -5,13 +5,14 @@ use Prim.Native.Nat.{ℕ, zero, suc, _-_, _/_, _%_, _^_}
 use lib.Bits.{bitOr}
 use lib.Dec.{eqb, ltb, leb}
 use lib.ListN.{getD, set}
+use Rattle.acpi.specs.Bits.{«TMR_STS», «BM_STS», «GBL_STS», «PWRBTN_STS», «SLPBTN_STS», «RTC_STS», «PCIEXP_WAKE_STS»}
 use Rattle.clock.specs.Clock.{tickOf, startOf, ticksOf as clockTicks}
 use Rattle.clock.specs.declared.Clock.{Clock}
-use Rattle.platform.specs.Cells.{statusCells, wideTimer}
+use Rattle.platform.specs.Fitted.{statusCells, wideTimer}
 use Rattle.platform.specs.Rules.{eventCount}
 use Rattle.platform.specs.declared.settings.Settings.{Settings}
 use Rattle.machine.specs.declared.Machine.{Machine}
-use Rattle.machine.specs.Cells.{tmrBit, hasBit}
+use Rattle.machine.specs.Status.{tmrBit, hasBit}
 use Rattle.machine.specs.Fields.{withEvent, withGpe, withButton, withTime}
 use Rattle.machine.specs.Lines.{awake}
 use Rattle.machine.specs.Sleep.{isSleeping, wakeBits, wokenIf, restarted, overridden}
@@ -31,15 +32,15 @@ pub data StatusBit : Type 0 where
 
 -- "press and release go by bit 8, sleep press 9, alarm 10, PCIe wake 14, bus-master 4, unlock 5, ticks 0"; a general event goes by its own
 abbrev pub eventBit : Event → StatusBit
-eventBit event.Press = pm1 8
-eventBit event.Release = pm1 8
-eventBit event.SleepPress = pm1 9
-eventBit event.Alarm = pm1 10
-eventBit event.PcieWake = pm1 14
-eventBit event.BusMaster = pm1 4
-eventBit event.Unlock = pm1 5
+eventBit event.Press = pm1 «PWRBTN_STS»
+eventBit event.Release = pm1 «PWRBTN_STS»
+eventBit event.SleepPress = pm1 «SLPBTN_STS»
+eventBit event.Alarm = pm1 «RTC_STS»
+eventBit event.PcieWake = pm1 «PCIEXP_WAKE_STS»
+eventBit event.BusMaster = pm1 «BM_STS»
+eventBit event.Unlock = pm1 «GBL_STS»
 eventBit (event.General k) = gpe k
-eventBit (event.Ticks n) = pm1 0
+eventBit (event.Ticks n) = pm1 «TMR_STS»
 
 -- a PM1 bit at its place in the register; a general event's has none there
 abbrev pub pm1Mask : StatusBit → ℕ
@@ -164,9 +165,9 @@ tickedOnce m =
     cond (awake m) (timed m (tickOf (wideTimer (m .settings)) (m .button) (m .settings .«power_override») (clockOf m))) m
 
 -- "Tick, n times"
-unfoldable pub ticksOf : ℕ → Machine → Machine
-ticksOf zero m = m
-ticksOf (suc n) m = ticksOf n (tickedOnce m)
+unfoldable pub tickedBy : ℕ → Machine → Machine
+tickedBy zero m = m
+tickedBy (suc n) m = tickedBy n (tickedOnce m)
 
 -- ---- all of them
 
@@ -178,7 +179,7 @@ doneBy m bit kind.signal = signalOf m bit
 doneBy m bit kind.pcieWake = pcieWakeOf m
 doneBy m bit kind.notice = raised m (pm1Mask bit)
 doneBy m bit (kind.general k) = generalOf m k
-doneBy m bit (kind.ticks n) = ticksOf n m
+doneBy m bit (kind.ticks n) = tickedBy n m
 
 unfoldable pub eventOf : Machine → Event → Machine
 eventOf m e = doneBy m (eventBit e) (eventKind e)

@@ -6,14 +6,15 @@ use Prim.Native.Nat.{ℕ, _^_}
 use lib.Dec.{eqb, ltb, leb}
 use lib.ListN.{length, getD, drop}
 use Rattle.lists.specs.Any.{any}
-use Rattle.bits.specs.Cell.{within}
+use Rattle.bits.specs.Writes.{within}
 use Rattle.clock.specs.Clock.{counterBits, holdLimit}
 use Rattle.sleep.specs.Pairs.{absent}
 use Rattle.platform.specs.Blocks.{present}
-use Rattle.platform.specs.Cells.{statusCells, enableCells, wideTimer}
+use Rattle.platform.specs.Fitted.{statusCells, enableCells, wideTimer}
 use Rattle.platform.specs.Legal.{legalSettings}
 use Rattle.platform.specs.declared.settings.Settings.{Settings}
-use Rattle.machine.specs.Cells.{pwrbtnBit, hasPm1bCnt, gpeHalf, gpeSts, gpeEn}
+use Rattle.machine.specs.Status.{pwrbtnBit}
+use Rattle.registers.specs.Registers.{hasPm1bCnt, gpeHalf, gpeSts, gpeEn}
 use Rattle.machine.specs.Lines.{awake}
 use Rattle.machine.specs.PowerOn.{gpeBytes}
 use Rattle.machine.specs.declared.Machine.{Machine}

@@ -1,5 +1,6 @@
 pub mod Answer
 pub mod Ports
+pub mod Control
 pub mod Bus
 pub mod EventKinds
 pub mod Events

@@ -6,8 +6,9 @@ use lib.Bits.{bitAnd, bitOr}
 use lib.Dec.{eqb}
 use Rattle.platform.specs.declared.settings.Settings.{Settings}
 use Rattle.machine.specs.declared.Machine.{Machine}
-use Rattle.model.specs.Bus.{completes, namedState}
-use Rattle.machine.specs.Cells.{pwrbtnBit, wakBit, inStatus, onesIn, inGpeStatus}
+use Rattle.model.specs.Control.{completes, namedState}
+use Rattle.machine.specs.Status.{pwrbtnBit, wakBit}
+use Rattle.registers.specs.Registers.{inStatus, onesIn, inGpeStatus}
 use Rattle.model.specs.Events.{StatusBit, pm1, gpe, eventBit, pm1Mask, eventMask, inS5, signalWakes, pcieWakes, inGpe0, numberIn, generalEnabled, clockAfter, tmrRaised}
 use Rattle.model.specs.EventKinds.{EventKind, eventKind}
 use Rattle.model.specs.EventKinds as kind

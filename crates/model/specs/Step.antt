@@ -4,8 +4,9 @@ use mathlib.Core.List.{List, [], _∷_}
 use Prim.Native.Nat.{ℕ}
 use lib.Dec.{eqb}
 use Rattle.machine.specs.declared.Machine.{Machine}
-use Rattle.model.specs.Answer.{numberOf, Line, _if_, firstApplying}
-use Rattle.model.specs.Bus.{wrongWidth, dataTooWide, leadsNowhere, allowed, isTimer, commandLost, namesNone, readOf, writeOf}
+use Rattle.model.specs.Answer.{stepNumber, Refusal, _if_, firstApplying}
+use Rattle.model.specs.Bus.{wrongWidth, dataTooWide, leadsNowhere, allowed, isTimer, commandLost, readOf, writeOf}
+use Rattle.model.specs.Control.{namesNone}
 use Rattle.model.specs.Events.{StatusBit, eventBit, pm1Mask, fits, inGpe0, inGpe1, eventOf}
 use Rattle.model.specs.Firmware.{takeOf, dropOf}
 use Rattle.model.specs.EventKinds.{EventKind, eventKind}
@@ -35,8 +36,8 @@ busStep t = cond (t .writes) (step.Write (t .access) (t .written)) (step.Read (t
 -- ---- the lines of the table, by the kind of step
 
 -- 20, then 21, 23 and 24: of a read
-abbrev pub readLines : Machine → Register → ℕ → ℕ → List Line
-readLines m r width offset =
+abbrev pub readRefusals : Machine → Register → ℕ → ℕ → List Refusal
+readRefusals m r width offset =
     answer.Asleep if not (awake m) ∷
     answer.WrongWidth if wrongWidth width ∷
     answer.NoBlock if leadsNowhere r ∷
@@ -44,8 +45,8 @@ readLines m r width offset =
     []
 
 -- 20, then 21 to 27: of a write
-abbrev pub writeLines : Machine → Register → ℕ → ℕ → ℕ → List Line
-writeLines m r width offset written =
+abbrev pub writeRefusals : Machine → Register → ℕ → ℕ → ℕ → List Refusal
+writeRefusals m r width offset written =
     answer.Asleep if not (awake m) ∷
     answer.WrongWidth if wrongWidth width ∷
     answer.DataTooWide if dataTooWide width written ∷
@@ -57,29 +58,29 @@ writeLines m r width offset written =
     []
 
 -- 28: "what a press, release, sleep press, alarm or PCIe wake belongs to is not fitted"
-abbrev pub unfitted : Machine → StatusBit → Line
+abbrev pub unfitted : Machine → StatusBit → Refusal
 unfitted m bit = answer.NotFitted if not (fits (m .settings) (pm1Mask bit))
 
 -- 28, then 30: "press while down, release while up"; 20: "bus-master, unlock .. outside S0"; 29: "a general event number belongs to no block"
-abbrev pub linesBy : Machine → StatusBit → EventKind → List Line
-linesBy m bit kind.press = unfitted m bit ∷ answer.ButtonAlready if m .button ∷ []
-linesBy m bit kind.release = unfitted m bit ∷ answer.ButtonAlready if not (m .button) ∷ []
-linesBy m bit kind.signal = unfitted m bit ∷ []
-linesBy m bit kind.pcieWake = unfitted m bit ∷ []
-linesBy m bit kind.notice = answer.Asleep if not (awake m) ∷ []
-linesBy m bit (kind.general k) = answer.NoSuchEvent if not (inGpe0 (m .settings) k || inGpe1 (m .settings) k) ∷ []
-linesBy m bit (kind.ticks n) = []
+abbrev pub refusalsBy : Machine → StatusBit → EventKind → List Refusal
+refusalsBy m bit kind.press = unfitted m bit ∷ answer.ButtonAlready if m .button ∷ []
+refusalsBy m bit kind.release = unfitted m bit ∷ answer.ButtonAlready if not (m .button) ∷ []
+refusalsBy m bit kind.signal = unfitted m bit ∷ []
+refusalsBy m bit kind.pcieWake = unfitted m bit ∷ []
+refusalsBy m bit kind.notice = answer.Asleep if not (awake m) ∷ []
+refusalsBy m bit (kind.general k) = answer.NoSuchEvent if not (inGpe0 (m .settings) k || inGpe1 (m .settings) k) ∷ []
+refusalsBy m bit (kind.ticks n) = []
 
-abbrev pub eventLines : Machine → Event → List Line
-eventLines m e = linesBy m (eventBit e) (eventKind e)
+abbrev pub eventRefusals : Machine → Event → List Refusal
+eventRefusals m e = refusalsBy m (eventBit e) (eventKind e)
 
 -- 20: "asleep: a bus access, bus-master, unlock or firmware step outside S0"; 31: "firmware takes with no command waiting"
-abbrev pub linesOf : Machine → Step → List Line
-linesOf m (step.Read a) = readLines m (registerOf m a) (a .width) (offsetOf m a)
-linesOf m (step.Write a written) = writeLines m (registerOf m a) (a .width) (offsetOf m a) written
-linesOf m (step.Event e) = eventLines m e
-linesOf m step.Take = answer.Asleep if not (awake m) ∷ answer.NoCommand if not (m .«command_waits») ∷ []
-linesOf m step.Drop = answer.Asleep if not (awake m) ∷ []
+abbrev pub refusalsOf : Machine → Step → List Refusal
+refusalsOf m (step.Read a) = readRefusals m (registerOf m a) (a .width) (offsetOf m a)
+refusalsOf m (step.Write a written) = writeRefusals m (registerOf m a) (a .width) (offsetOf m a) written
+refusalsOf m (step.Event e) = eventRefusals m e
+refusalsOf m step.Take = answer.Asleep if not (awake m) ∷ answer.NoCommand if not (m .«command_waits») ∷ []
+refusalsOf m step.Drop = answer.Asleep if not (awake m) ∷ []
 
 -- ---- the step
 
@@ -101,11 +102,11 @@ doneOf m step.Drop = dropOf m
 
 -- "The lowest number that applies is given; otherwise 0."
 unfoldable pub answerTo : Machine → Step → Answer
-answerTo m s = firstApplying (linesOf m s) (answer.Done (doneValue m s))
+answerTo m s = firstApplying (refusalsOf m s) (answer.Done (doneValue m s))
 
 -- the step was accepted
 abbrev pub accepted : Answer → Bool
-accepted a = eqb (numberOf a) 0
+accepted a = eqb (stepNumber a) 0
 
 -- a refusal leaves the machine as it was
 unfoldable pub after : Machine → Step → Machine

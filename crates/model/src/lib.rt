@@ -1,7 +1,7 @@
 // The steps of the machine: what they are and what they answer. The definitions of what each does stand in specs/.
 use machine::Machine;
 ghost use mathlib.Core.Path.{_≡_};
-ghost use Rattle.model.specs.Answer.{numberOf, valueOf};
+ghost use Rattle.model.specs.Answer.{stepNumber, stepValue};
 ghost use Rattle.model.specs.Step.{accepted};
 
 // A bus access: its width in bytes, and its first port. In this order the port is a word of its own within a step, and a copied
@@ -88,7 +88,7 @@ pub struct Place {
 
 // Document 01's number of an answer, and its value.
 pub fn number(a: Answer) -> u8
-    ensures { λ r. ⌜ r ≡ numberOf a ⌝ }
+    ensures { λ r. ⌜ r ≡ stepNumber a ⌝ }
 {
     match a {
         Answer::Done(_) => 0,
@@ -108,7 +108,7 @@ pub fn number(a: Answer) -> u8
 }
 
 pub fn value(a: Answer) -> u32
-    ensures { λ r. ⌜ r ≡ valueOf a ⌝ }
+    ensures { λ r. ⌜ r ≡ stepValue a ⌝ }
 {
     match a {
         Answer::Done(v) => v,

@@ -12,13 +12,13 @@ use lib.ListN.{length, getD}
 use Rattle.lists.specs.Any.{any}
 use Rattle.lists.proofs.Search.{any-none, any-two-none, any-of-none}
 use Rattle.lists.proofs.Tests.{or-left, or-right, and-left, and-right, and-other}
-use Rattle.bits.proofs.Cells.{within-masked}
+use Rattle.bits.proofs.Writes.{within-masked}
 use Rattle.bits.proofs.Digits.{below-or-beyond}
 use Rattle.cells.specs.Cells.{flagOf}
 use Rattle.sleep.specs.Pairs.{outOfRange, shared, sleepRefused}
 use Rattle.platform.specs.Answer.{Rule, _when_}
 use Rattle.platform.specs.Blocks.{present, holds, overlap, portLimit, passesPorts, noBlock}
-use Rattle.platform.specs.Rules.{blockCount, blocksOf, gpeLongest, eventCount, hardwareReduced, wrongBlockLength, wrongGpeLength, justOneZero, lengthTests, lengthRefused, misaligned, placeTests, placeRefused, overlapRefused, gpeRefused, commandsRefused, homeless, homeTests, homesRefused, sleepPairsRefused, settingsRules}
+use Rattle.platform.specs.Rules.{blockCount, blocksOf, gpeLongest, eventCount, hardwareReduced, wrongBlockLength, wrongGpeLength, justOneZero, lengthTests, lengthRefused, misaligned, placeTests, placeRefused, overlapRefused, gpeRefused, commandsRefused, homesWithoutBlock, homeTests, homesRefused, sleepPairsRefused, settingsRules}
 use Rattle.platform.specs.Legal.{strayLength, legalTests, legalSettings, HasLength, HasGpeLength, HasNone, blockAt, Guaranteed}
 use Rattle.platform.specs.declared.block.Block.{Block}
 use Rattle.platform.specs.declared.settings.Settings.{Settings}
@@ -74,8 +74,8 @@ within-port-space : (b : Block) → passesPorts b ≡ false → b .address + b .
 unfolding passesPorts
 within-port-space b e = ltb-false portLimit (b .address + b .length) e
 
-home-is : (b : Block) (homes : ℕ) → homeless b homes ≡ false → present b ≡ false → homes ≡ 0
-unfolding homeless
+home-is : (b : Block) (homes : ℕ) → homesWithoutBlock b homes ≡ false → present b ≡ false → homes ≡ 0
+unfolding homesWithoutBlock
 home-is b homes e h = eqb-true homes 0 (not-false (eqb homes 0) (and-other (not (present b)) (not (eqb homes 0)) e (ap not h)))
 
 -- the block's ports

@@ -38,14 +38,14 @@ refusalValue refusal.WrongHomes = 0
 refusalValue refusal.SleepPairs = 0
 
 -- "0 is success"; a refusal has the number of its line
-abbrev pub answerNumber : SetUpAnswer → ℕ
-answerNumber answer.Done = 0
-answerNumber (answer.Refused r) = refusalNumber r
+abbrev pub setUpNumber : SetUpAnswer → ℕ
+setUpNumber answer.Done = 0
+setUpNumber (answer.Refused r) = refusalNumber r
 
 -- success gives a machine, and no value beside it
-abbrev pub answerValue : SetUpAnswer → ℕ
-answerValue answer.Done = 0
-answerValue (answer.Refused r) = refusalValue r
+abbrev pub setUpValue : SetUpAnswer → ℕ
+setUpValue answer.Done = 0
+setUpValue (answer.Refused r) = refusalValue r
 
 -- one thing on success, and another, by the line, on a refusal
 abbrev pub ifDone : {A : Type 0} → SetUpAnswer → A → (SetUpRefusal → A) → A

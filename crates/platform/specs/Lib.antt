@@ -2,4 +2,4 @@ pub mod Blocks
 pub mod Answer
 pub mod Rules
 pub mod Legal
-pub mod Cells
+pub mod Fitted

@@ -5,7 +5,7 @@ use Prim.Native.Nat.{ℕ, _+_, _*_, _%_}
 use lib.Dec.{eqb, ltb, leb}
 use Rattle.lists.specs.Any.{any, anyTwo, anyOf}
 use Rattle.acpi.specs.Fadt.{«HW_REDUCED_ACPI»}
-use Rattle.bits.specs.Cell.{within}
+use Rattle.bits.specs.Writes.{within}
 use Rattle.cells.specs.Cells.{flagOf}
 use Rattle.sleep.specs.Pairs.{sleepRefused}
 use Rattle.platform.specs.Answer.{Rule, _when_}
@@ -104,16 +104,16 @@ unfoldable pub commandsRefused : Settings → Bool
 commandsRefused s = not (eqb (s .«smi_cmd») 0) && eqb (s .«acpi_enable») (s .«acpi_disable»)
 
 -- "any bit where that B block is absent"
-unfoldable pub homeless : Block → ℕ → Bool
-homeless b homes = not (present b) && not (eqb homes 0)
+unfoldable pub homesWithoutBlock : Block → ℕ → Bool
+homesWithoutBlock b homes = not (present b) && not (eqb homes 0)
 
 -- 11: "event homes have a bit outside C731 hex, control homes outside 0007, or any bit where that B block is absent"
 abbrev pub homeTests : Settings → List Bool
 homeTests s =
     not (within 0xC731 (s .«event_homes»)) ∷
     not (within 0x0007 (s .«control_homes»)) ∷
-    homeless (s .«pm1b_evt») (s .«event_homes») ∷
-    homeless (s .«pm1b_cnt») (s .«control_homes») ∷
+    homesWithoutBlock (s .«pm1b_evt») (s .«event_homes») ∷
+    homesWithoutBlock (s .«pm1b_cnt») (s .«control_homes») ∷
     []
 
 unfoldable pub homesRefused : Settings → Bool

@@ -12,7 +12,7 @@ ghost use Prim.Native.Nat.{_+_, _<_};
 ghost use lib.Dec.{ltb};
 ghost use lib.ListN.{drop};
 ghost use Rattle.lists.specs.Any.{any, anyTwo};
-ghost use Rattle.platform.specs.Answer.{refusalNumber, refusalValue, answerNumber, answerValue, firstFailing};
+ghost use Rattle.platform.specs.Answer.{refusalNumber, refusalValue, setUpNumber, setUpValue, firstFailing};
 ghost use Rattle.platform.specs.Blocks.{overlap, passesPorts};
 ghost use Rattle.platform.specs.Rules.{
   blocksOf,
@@ -27,7 +27,7 @@ ghost use Rattle.platform.specs.Rules.{
   eventCount,
   gpeRefused,
   commandsRefused,
-  homeless,
+  homesWithoutBlock,
   homesRefused,
   sleepPairsRefused,
   settingsRules,
@@ -100,7 +100,7 @@ pub fn refusal_value(r: SetUpRefusal) -> u32
 }
 
 pub fn number(a: SetUpAnswer) -> u8
-    ensures { λ r. ⌜ r ≡ answerNumber a ⌝ }
+    ensures { λ r. ⌜ r ≡ setUpNumber a ⌝ }
 {
     match a {
         SetUpAnswer::Done => 0,
@@ -109,7 +109,7 @@ pub fn number(a: SetUpAnswer) -> u8
 }
 
 pub fn value(a: SetUpAnswer) -> u32
-    ensures { λ r. ⌜ r ≡ answerValue a ⌝ }
+    ensures { λ r. ⌜ r ≡ setUpValue a ⌝ }
 {
     match a {
         SetUpAnswer::Done => 0,
@@ -311,8 +311,8 @@ fn commands_refused(s: Settings) -> bool
     (s.smi_cmd != 0) & (s.acpi_enable == s.acpi_disable)
 }
 
-fn homeless(b: Block, homes: u16) -> bool
-    ensures { λ r. ⌜ r ≡ homeless b homes ⌝ }
+fn homes_without_block(b: Block, homes: u16) -> bool
+    ensures { λ r. ⌜ r ≡ homesWithoutBlock b homes ⌝ }
 {
     !is_present(b) & (homes != 0)
 }
@@ -325,8 +325,8 @@ fn homes_refused(s: Settings) -> bool
     let known = cells::mask(Column::Known, 0, false);
     !bits::within16(known, s.event_homes)
         | !bits::within16(0x0007, s.control_homes)
-        | homeless(evt_b, s.event_homes)
-        | homeless(cnt_b, s.control_homes)
+        | homes_without_block(evt_b, s.event_homes)
+        | homes_without_block(cnt_b, s.control_homes)
 }
 
 fn sleep_pairs_refused(s: Settings) -> bool

@@ -5,7 +5,7 @@ use acpi::TMR_VAL_EXT;
 use cells::Column;
 use sleep::SleepTable;
 ghost use mathlib.Core.Path.{_≡_};
-ghost use Rattle.platform.specs.Cells.{statusCells, enableCells, wideTimer};
+ghost use Rattle.platform.specs.Fitted.{statusCells, enableCells, wideTimer};
 
 pub struct Settings {
     // the port where the guest writes commands to the firmware

@@ -7,7 +7,7 @@ use native.Mathlib.Nat.{lt-of-lt-of-le, one-mul, le-of-suc-le-suc, not-suc-le-ze
 use lib.Bits.{bitAnd, and-comm, and-shifted, and-mask}
 use lib.ListN.{length, getD}
 use lib.Pow.{pow-mono}
-use Rattle.machine.specs.Cells.{hasBit}
+use Rattle.machine.specs.Status.{hasBit}
 
 -- a register of 16 bits has no bit past them
 apart : (mask n : ℕ) → mask < 2 ^ 16 → 16 ≤ n → bitAnd mask (2 ^ n) ≡ 0

@@ -13,33 +13,8 @@ ghost use mathlib.Core.Path.{_≡_};
 ghost use Prim.Native.Nat.{_-_, _%_, _^_};
 ghost use lib.Bits.{bitAnd};
 ghost use lib.ListN.{getD, set};
-ghost use Rattle.bits.specs.Cell.{clearedBy, takenBy};
-ghost use Rattle.machine.specs.Cells.{
-  homesIn,
-  statusIn,
-  enableIn,
-  shown,
-  covered,
-  placed,
-  statusRegister,
-  enableRegister,
-  clearable,
-  controlIn,
-  hasPm1bCnt,
-  slpTyp,
-  controlRegister,
-  coversLow,
-  coversHigh,
-  writtenBit,
-  gpeHalf,
-  gpeSts,
-  gpeEn,
-  inGpeStatus,
-  gpeStsByte,
-  gpeEnByte,
-  gpeStsCleared,
-  gpeEnTaken,
-};
+ghost use Rattle.bits.specs.Writes.{clearedBy, takenBy};
+ghost use Rattle.registers.specs.Registers.{homesIn, statusIn, enableIn, shown, covered, placed, statusRegister, enableRegister, clearable, controlIn, hasPm1bCnt, slpTyp, controlRegister, coversLow, coversHigh, writtenBit, gpeHalf, gpeSts, gpeEn, inGpeStatus, gpeStsByte, gpeEnByte, gpeStsCleared, gpeEnTaken};
 
 // The bits that live in the block, B or A.
 fn homes_in(homes: u16, b: bool) -> u16

@@ -22,7 +22,7 @@ use Rattle.platform.specs.declared.rules.SetUpRefusal.{SetUpRefusal}
 use Rattle.platform.proofs.Answers.{if-done, if-refused}
 use Rattle.machine.specs.declared.Machine.{Machine}
 use Rattle.machine.specs.declared.SetUp.{SetUp}
-use Rattle.model.specs.Answer.{numberOf}
+use Rattle.model.specs.Answer.{stepNumber}
 use Rattle.model.specs.Step.{stepOf}
 use Rattle.model.specs.declared.Answer.{Answer}
 use Rattle.model.specs.declared.Answer.the-variants as reply
@@ -33,7 +33,7 @@ use Rattle.listing.proofs.Laws.{entry-length}
 use Rattle.script.specs.StepLine.{lineOf}
 use Rattle.script.specs.declared.step_line.Line.{Line}
 use Rattle.script.specs.declared.step_line.Line.the-variants as line
-use Rattle.session.specs.Session.{limit, lineEnd, isStep, stepReads, firstUnread, stepIn, entries, listingOf, answerFor, textFor, platformLineReads, settled, unread, runAnswer, runBuffer, answerOf, bufferAfter}
+use Rattle.session.specs.Session.{limit, lineEnd, isStep, stepReads, firstUnread, stepIn, entries, listingOf, answerFor, textFor, platformLineReads, setUpBy, unread, runAnswer, runBuffer, answerOf, bufferAfter}
 use Rattle.session.specs.declared.SessionAnswer.{SessionAnswer}
 use Rattle.session.specs.declared.SessionAnswer.the-variants as answer
 
@@ -215,8 +215,8 @@ module _ (table script l : List ℕ) where
   unfolding answerOf bufferAfter
   platform-unread p = (rw p refl, rw p refl)
 
-  module _ (made : SetUp) (p : platformLineReads script ≡ true) (q : made ≡ settled table script) where
-    same-answer : settled table script .answer ≡ made .answer
+  module _ (made : SetUp) (p : platformLineReads script ≡ true) (q : made ≡ setUpBy table script) where
+    same-answer : setUpBy table script .answer ≡ made .answer
     same-answer = ap (λ (x : SetUp). x .answer) (sym q)
 
     -- "setting up refused, with its own number"
@@ -238,7 +238,7 @@ module _ (table script l : List ℕ) where
 -- ---- room for any answers
 
 -- no answer's number has more than two digits
-number-short : (a : Answer) → numberOf a < 100
+number-short : (a : Answer) → stepNumber a < 100
 number-short (reply.Done v) = omega arith
 number-short reply.Asleep = omega arith
 number-short reply.WrongWidth = omega arith
@@ -259,7 +259,7 @@ count-grows k n h = digits-fewest 10 (omega arith) k (digitCount 10 n) (digit-co
 
 entry-most : (k n : ℕ) (a : Answer) → k ≤ n → entryLength k a ≤ 20 + digitCount 10 n
 entry-most k n a h =
-    let short = digits-fewest 10 (omega arith) (numberOf a) 2 (omega arith) (number-short a) in
+    let short = digits-fewest 10 (omega arith) (stepNumber a) 2 (omega arith) (number-short a) in
     let grows = count-grows k n h in
     omega arith
 

@@ -100,19 +100,19 @@ runBuffer m script buffer =
 
 module _ (table script : List ℕ) where
   -- what setting up gives
-  abbrev pub settled : SetUp
-  settled = setUpOf table (homesAt (platformLine script) 1) (homesAt (platformLine script) 2) (overrideIn (platformLine script)) (pairsIn (platformLine script))
+  abbrev pub setUpBy : SetUp
+  setUpBy = setUpOf table (homesAt (platformLine script) 1) (homesAt (platformLine script) 2) (overrideIn (platformLine script)) (pairsIn (platformLine script))
 
   -- judged in this order: the platform line, setting up, the later lines, room
   unfoldable pub answerOf : ℕ → SessionAnswer
   answerOf room =
       cond (platformLineReads script)
-      (ifDone (settled .answer) (runAnswer (settled .machine) script room) answer.SetUp)
+      (ifDone (setUpBy .answer) (runAnswer (setUpBy .machine) script room) answer.SetUp)
       answer.PlatformLine
 
   -- the lent buffer: "If setting up is refused .., nothing is printed"
   unfoldable pub bufferAfter : List ℕ → List ℕ
   bufferAfter buffer =
       cond (platformLineReads script)
-      (ifDone (settled .answer) (runBuffer (settled .machine) script buffer) (λ line. buffer))
+      (ifDone (setUpBy .answer) (runBuffer (setUpBy .machine) script buffer) (λ line. buffer))
       buffer

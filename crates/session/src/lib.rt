@@ -27,8 +27,8 @@ ghost use lib.Seq.{sets};
 ghost use lib.ListN.{length, drop};
 ghost use Rattle.text.specs.Numbers.{digitCount};
 ghost use Rattle.text.specs.Parts.{lf, front, linesOf};
-ghost use Rattle.session.specs.Answer.{numberOf, valueOf};
-ghost use Rattle.session.specs.Session.{stepReads, firstUnread, stepIn, entries, listingOf, answerFor, textFor, platformLineReads, settled, runAnswer, runBuffer, answerOf, bufferAfter};
+ghost use Rattle.session.specs.Answer.{sessionNumber, sessionValue};
+ghost use Rattle.session.specs.Session.{stepReads, firstUnread, stepIn, entries, listingOf, answerFor, textFor, platformLineReads, setUpBy, runAnswer, runBuffer, answerOf, bufferAfter};
 ghost use Rattle.model.specs.Step.{stepOf};
 ghost use Rattle.script.specs.StepLine.{lineOf};
 
@@ -188,8 +188,8 @@ fn platform_line_reads(source: &[u8]) -> bool
 }
 
 // The machine that the table and the platform line give.
-fn settled(table: &[u8], source: &[u8]) -> SetUp
-    ensures { λ r. ⌜ r ≡ settled (now (table .entry)) (now (source .entry)) ⌝ }
+fn set_up_by(table: &[u8], source: &[u8]) -> SetUp
+    ensures { λ r. ⌜ r ≡ setUpBy (now (table .entry)) (now (source .entry)) ⌝ }
 {
     let line = line_from(source, 0);
     machine::set_up(
@@ -218,7 +218,7 @@ pub fn session(table: &[u8], source: &[u8], buf: &mut [u8]) -> SessionAnswer
     ensures { λ r. ⌜ (r ≡ answerOf (now (table .entry)) (now (source .entry)) (length (now (buf .entry)))) × (now (buf .exit) ≡ bufferAfter (now (table .entry)) (now (source .entry)) (now (buf .entry))) ⌝ }
 {
     if platform_line_reads(source) {
-        let made = settled(table, source);
+        let made = set_up_by(table, source);
         let answer = made.answer;
         return match answer {
             SetUpAnswer::Done => run(buf, made.machine, source),
@@ -230,7 +230,7 @@ pub fn session(table: &[u8], source: &[u8], buf: &mut [u8]) -> SessionAnswer
 
 // The number of an answer, and its value.
 pub fn number(a: SessionAnswer) -> u8
-    ensures { λ r. ⌜ r ≡ numberOf a ⌝ }
+    ensures { λ r. ⌜ r ≡ sessionNumber a ⌝ }
 {
     match a {
         SessionAnswer::Written(_) => 0,
@@ -242,7 +242,7 @@ pub fn number(a: SessionAnswer) -> u8
 }
 
 pub fn value(a: SessionAnswer) -> usize
-    ensures { λ r. ⌜ r ≡ valueOf a ⌝ }
+    ensures { λ r. ⌜ r ≡ sessionValue a ⌝ }
 {
     match a {
         SessionAnswer::Written(length) => length,

@@ -2,7 +2,7 @@
 use mathlib.Core.List.{List}
 use Prim.Native.Nat.{ℕ, zero, suc, _+_, _%_, _^_}
 use lib.ListN.{length}
-use Rattle.session.specs.Answer.{numberOf, valueOf}
+use Rattle.session.specs.Answer.{sessionNumber, sessionValue}
 use Rattle.session.specs.Session.{answerOf, bufferAfter}
 
 -- a sum of 64 bits
@@ -11,7 +11,7 @@ plus sum n = (sum + n) % 2 ^ 64
 
 -- one more: its answer's number and value are added
 unfoldable pub sessionTurn : List ℕ → List ℕ → ℕ → ℕ → ℕ
-sessionTurn table script room sum = plus (plus sum (numberOf (answerOf table script room))) (valueOf (answerOf table script room))
+sessionTurn table script room sum = plus (plus sum (sessionNumber (answerOf table script room))) (sessionValue (answerOf table script room))
 
 -- n more: the sum, and the lent buffer
 unfoldable pub sumAfter : List ℕ → List ℕ → ℕ → List ℕ → ℕ → ℕ

@@ -3,7 +3,7 @@ use mathlib.Core.List.{List}
 use mathlib.Core.Path.{_≡_, refl}
 use Prim.Native.Nat.{ℕ, zero, suc, _+_, _≤_}
 use native.Mathlib.Omega.{arith}
-use Rattle.speed_steps.specs.Rows.{stepAt, nextPlace, doneOf, linesIf, stepsOf}
+use Rattle.speed_steps.specs.Rows.{stepAt, nextPlace, runStep, linesIf, runSteps}
 use Rattle.speed_steps.specs.SetUps.{setUpTurn, setUpsOf}
 use Rattle.speed_steps.specs.declared.Ports.{Ports}
 use Rattle.speed_steps.specs.declared.Row.{Row}
@@ -14,12 +14,12 @@ pub past : (k p : ℕ) → k ≤ p → (p ≡ k → ⊥) → k + 1 ≤ p
 past k p h x = omega arith
 
 module _ (x : Row) (p : Ports) where
-  pub steps-turn : (n k : ℕ) (r : Run) → stepsOf x p (suc n) k r ≡ stepsOf x p n (nextPlace x k) (linesIf x k (doneOf r (stepAt x k p (r .older))))
-  unfolding stepsOf
+  pub steps-turn : (n k : ℕ) (r : Run) → runSteps x p (suc n) k r ≡ runSteps x p n (nextPlace x k) (linesIf x k (runStep r (stepAt x k p (r .older))))
+  unfolding runSteps
   steps-turn n k r = refl
 
-  pub steps-end : (k : ℕ) (r : Run) → stepsOf x p zero k r ≡ r
-  unfolding stepsOf
+  pub steps-end : (k : ℕ) (r : Run) → runSteps x p zero k r ≡ r
+  unfolding runSteps
   steps-end k r = refl
 
 module _ (table : List ℕ) where

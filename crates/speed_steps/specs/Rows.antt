@@ -7,13 +7,13 @@ use lib.ListN.{getD}
 use Rattle.machine.specs.Fields.{withEvent, withSciEn}
 use Rattle.machine.specs.Lines.{sciOf, smiOf}
 use Rattle.machine.specs.declared.Machine.{Machine}
-use Rattle.model.specs.Answer.{numberOf, valueOf}
+use Rattle.model.specs.Answer.{stepNumber, stepValue}
 use Rattle.model.specs.Step.{stepOf}
 use Rattle.model.specs.declared.Event.{Event}
 use Rattle.model.specs.declared.Event.the-variants as event
 use Rattle.model.specs.declared.Step.{Step}
 use Rattle.model.specs.declared.Step.the-variants as step
-use Rattle.speed_steps.specs.SetUps.{plus, settled}
+use Rattle.speed_steps.specs.SetUps.{plus, setUpHere}
 use Rattle.speed_steps.specs.declared.Ports.{Ports}
 use Rattle.speed_steps.specs.declared.Row.{Row}
 use Rattle.speed_steps.specs.declared.Row.the-variants as row
@@ -91,13 +91,13 @@ nextPlace r k = cond (ltb k (lastOf r)) (k + 1) 0
 -- ---- a run
 
 -- one step: its answer's number and value are added
-unfoldable pub doneOf : Run → Step → Run
-doneOf r s =
+unfoldable pub runStep : Run → Step → Run
+runStep r s =
     record {
       machine = stepOf (r .machine) s .machine;
-      value = valueOf (stepOf (r .machine) s .answer);
+      value = stepValue (stepOf (r .machine) s .answer);
       older = r .value;
-      sum = plus (r .sum) (numberOf (stepOf (r .machine) s .answer) + valueOf (stepOf (r .machine) s .answer));
+      sum = plus (r .sum) (stepNumber (stepOf (r .machine) s .answer) + stepValue (stepOf (r .machine) s .answer));
     }
 
 -- SCI counts 1, and SMI 2
@@ -121,9 +121,9 @@ linesIf row.Interrupt k r = cond (eqb k 4) (linesAdded r) r
 linesIf row.Sleep k r = r
 
 -- n steps of the row from a place on
-unfoldable pub stepsOf : Row → Ports → ℕ → ℕ → Run → Run
-stepsOf x p zero k r = r
-stepsOf x p (suc n) k r = stepsOf x p n (nextPlace x k) (linesIf x k (doneOf r (stepAt x k p (r .older))))
+unfoldable pub runSteps : Row → Ports → ℕ → ℕ → Run → Run
+runSteps x p zero k r = r
+runSteps x p (suc n) k r = runSteps x p n (nextPlace x k) (linesIf x k (runStep r (stepAt x k p (r .older))))
 
 -- the sum, with the status cells and the counter at the end
 unfoldable pub sumOf : Run → ℕ
@@ -131,4 +131,4 @@ sumOf r = plus (plus (r .sum) (r .machine .«pm1_sts»)) (r .machine .counter)
 
 -- the run whole: set up as in the worked session, prepared, n steps
 unfoldable pub stepsRun : List ℕ → ℕ → ℕ → ℕ → ℕ
-stepsRun table base x n = sumOf (stepsOf (rowOf x) (portsOf base) n 0 (preparedOf (settled table false .machine)))
+stepsRun table base x n = sumOf (runSteps (rowOf x) (portsOf base) n 0 (preparedOf (setUpHere table false .machine)))

@@ -3,7 +3,7 @@ use mathlib.Core.Bool.{Bool, cond}
 use mathlib.Core.List.{List, [], _∷_}
 use Prim.Native.Nat.{ℕ, zero, suc, _+_, _%_, _^_}
 use lib.Dec.{eqb}
-use Rattle.platform.specs.Answer.{answerNumber}
+use Rattle.platform.specs.Answer.{setUpNumber}
 use Rattle.machine.specs.SetUp.{setUpOf}
 use Rattle.machine.specs.declared.SetUp.{SetUp}
 
@@ -19,15 +19,15 @@ abbrev pub pairs : List (List ℕ)
 pairs = (0 ∷ 0 ∷ []) ∷ (255 ∷ 255 ∷ []) ∷ (255 ∷ 255 ∷ []) ∷ (5 ∷ 2 ∷ []) ∷ (255 ∷ 255 ∷ []) ∷ (7 ∷ 0 ∷ []) ∷ []
 
 -- the worked session's host, with or without the override
-abbrev pub settled : List ℕ → Bool → SetUp
-settled table power-override = setUpOf table eventHomes 0 power-override pairs
+abbrev pub setUpHere : List ℕ → Bool → SetUp
+setUpHere table power-override = setUpOf table eventHomes 0 power-override pairs
 
 -- one more, with the override where the sum so far is odd; its number, and 3 or 1 by the override kept, are added
 abbrev pub setUpWith : List ℕ → ℕ → SetUp
-setUpWith table sum = settled table (eqb (sum % 2) 1)
+setUpWith table sum = setUpHere table (eqb (sum % 2) 1)
 
 unfoldable pub setUpTurn : List ℕ → ℕ → ℕ
-setUpTurn table sum = plus (plus sum (answerNumber (setUpWith table sum .answer))) (cond (setUpWith table sum .machine .settings .«power_override») 3 1)
+setUpTurn table sum = plus (plus sum (setUpNumber (setUpWith table sum .answer))) (cond (setUpWith table sum .machine .settings .«power_override») 3 1)
 
 -- n more
 unfoldable pub setUpsOf : List ℕ → ℕ → ℕ → ℕ

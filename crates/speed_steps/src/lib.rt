@@ -17,12 +17,12 @@ ghost use Rattle.speed_steps.specs.Rows.{
   sleepAt,
   stepAt,
   nextPlace,
-  doneOf,
+  runStep,
   linesAdded,
   linesIf,
   readAt,
   writeAt,
-  stepsOf,
+  runSteps,
   sumOf,
   stepsRun,
 };
@@ -190,7 +190,7 @@ fn next_place(row: Row, k: u64) -> u64
 
 // One step, its answer's number and value added to the sum.
 fn done(r: Run, s: Step) -> Run
-    ensures { λ result. ⌜ result ≡ doneOf r s ⌝ }
+    ensures { λ result. ⌜ result ≡ runStep r s ⌝ }
 {
     let stepped = step::step(r.machine, s);
     let answer = stepped.answer;
@@ -241,7 +241,7 @@ fn lines_if(row: Row, k: u64, r: Run) -> Run
 
 // n steps of the row, from its first on and round again.
 fn steps(start: Run, row: Row, p: Ports, n: u64) -> Run
-    ensures { λ r. ⌜ r ≡ stepsOf row p n 0 start ⌝ }
+    ensures { λ r. ⌜ r ≡ runSteps row p n 0 start ⌝ }
 {
     let mut r = start;
     let mut k: u64 = 0;

@@ -11,19 +11,19 @@ use lib.Dec.{eqb}
 use Rattle.clock.specs.Clock.{startOf}
 use Rattle.clock.specs.Clock as clock
 use Rattle.clock.specs.declared.Clock.{Clock}
-use Rattle.platform.specs.Cells.{wideTimer}
+use Rattle.platform.specs.Fitted.{wideTimer}
 use Rattle.platform.specs.declared.settings.Settings.{Settings}
 use Rattle.machine.specs.declared.Machine.{Machine}
 use Rattle.model.specs.Answer.{firstApplying}
-use Rattle.machine.specs.Cells.{tmrBit}
-use Rattle.model.specs.Events.{StatusBit, pm1, gpe, eventBit, pm1Mask, fits, raised, pressOf, signalOf, pcieWakeOf, generalOf, generalRaised, inGpe0, inGpe1, withBit, numberIn, inS5, tmrRaised, timed, ticksOf, doneBy, eventOf}
+use Rattle.machine.specs.Status.{tmrBit}
+use Rattle.model.specs.Events.{StatusBit, pm1, gpe, eventBit, pm1Mask, fits, raised, pressOf, signalOf, pcieWakeOf, generalOf, generalRaised, inGpe0, inGpe1, withBit, numberIn, inS5, tmrRaised, timed, tickedBy, doneBy, eventOf}
 use Rattle.machine.specs.Fields.{withGpe, withButton, withTime}
 use Rattle.machine.specs.Lines.{awake}
 use Rattle.machine.specs.Sleep.{isSleeping}
 use Rattle.model.specs.Raises.{bitsIf}
 use Rattle.model.specs.EventKinds.{EventKind, eventKind}
 use Rattle.model.specs.EventKinds as kind
-use Rattle.model.specs.Step.{linesBy, answerTo, accepted, after}
+use Rattle.model.specs.Step.{refusalsBy, answerTo, accepted, after}
 use Rattle.model.proofs.EventBits.{Pair, pair-of}
 use Rattle.model.proofs.EventBits as pair
 use Rattle.model.proofs.Ticks.{ticks-awake}
@@ -147,7 +147,7 @@ effectOf s e = effectBy s (eventBit e) (eventKind e)
 
 -- the answer to an event, and the machine after it, by its bit and its kind
 abbrev answerBy : Machine → StatusBit → EventKind → Answer
-answerBy m bit k = firstApplying (linesBy m bit k) (answer.Done 0)
+answerBy m bit k = firstApplying (refusalsBy m bit k) (answer.Done 0)
 
 abbrev afterBy : Machine → StatusBit → EventKind → Machine
 afterBy m bit k = cond (accepted (answerBy m bit k)) (doneBy m bit k) m
@@ -228,7 +228,7 @@ module _ (m : Machine) (n : ℕ) (z : m .state ≡ 0) where
   unfolding firstApplying timed
   ticks-on-or-off = go runOut refl
     where
-      go : (t : Bool) → runOut ≡ t → (runOut ≡ false) ⊎ (ticksOf n m .state ≡ 5)
+      go : (t : Bool) → runOut ≡ t → (runOut ≡ false) ⊎ (tickedBy n m .state ≡ 5)
       go false p = inl p
       go true p = inr (ap (λ (k : Machine). k .state) (ticks-awake n m (awake-here m z)) ∙ rw p refl)
 

@@ -7,7 +7,7 @@ use Prim.Native.Nat.{ℕ}
 use Rattle.runs.proofs.Runs.{Commute}
 use Rattle.platform.specs.declared.settings.Settings.{Settings}
 use Rattle.machine.specs.declared.Machine.{Machine}
-use Rattle.machine.specs.Cells.{hasPm1bCnt}
+use Rattle.registers.specs.Registers.{hasPm1bCnt}
 use Rattle.model.specs.Ports.{registerAt}
 use Rattle.model.specs.Step.{answerTo, after, offsetOf}
 use Rattle.model.specs.declared.Access.{Access}

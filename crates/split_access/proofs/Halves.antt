@@ -5,12 +5,13 @@ use mathlib.Core.Bool.{Bool, true, false, cond, and-false}
 use mathlib.Core.Path.{_≡_, refl, sym, _∙_, ap}
 use Prim.Native.Nat.{ℕ, _<_, _^_}
 use lib.Bits.{bitAnd, bitOr}
-use Rattle.bits.specs.Cell.{kept}
-use Rattle.bits.proofs.Cells.{raise-after-kept, read-after-raise}
+use Rattle.bits.specs.Writes.{kept}
+use Rattle.bits.proofs.Writes.{raise-after-kept, read-after-raise}
 use Rattle.runs.proofs.Runs.{Commute}
 use Rattle.machine.specs.declared.Machine.{Machine}
-use Rattle.model.specs.Bus.{commandLost, namesNone, readOf, writeOf, completes, controlled, typAfter, armedAfter, bmRldAfter, gblRlsAfter}
-use Rattle.machine.specs.Cells.{statusIn, onesIn, inStatus, statusAfter, enableAfter, hasPm1bCnt}
+use Rattle.model.specs.Bus.{commandLost, readOf, writeOf}
+use Rattle.model.specs.Control.{namesNone, completes, controlled, typAfter, armedAfter, bmRldAfter, gblRlsAfter}
+use Rattle.registers.specs.Registers.{statusIn, onesIn, inStatus, statusAfter, enableAfter, hasPm1bCnt}
 use Rattle.machine.specs.Fields.{withEvent}
 use Rattle.machine.specs.Lines.{awake}
 use Rattle.model.proofs.Steps.{reads-change-nothing}

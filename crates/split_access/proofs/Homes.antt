@@ -9,14 +9,15 @@ use borrow.Author.Tests.{eqb-true, eqb-false, not-true, not-false}
 use lib.Bits.{bitAnd, and-zero-l, and-comm}
 use lib.Dec.{eqb, lit<}
 use lib.Pow.{shl-lt, pow-mono}
-use Rattle.bits.specs.Cell.{lane}
+use Rattle.bits.specs.Writes.{lane}
 use Rattle.bits.specs.Digit.{digit}
 use Rattle.bits.proofs.Algebra.{disjoint-digit}
-use Rattle.bits.proofs.Cells.{masked-lt}
+use Rattle.bits.proofs.Writes.{masked-lt}
 use Rattle.bits.proofs.Digits.{digit-and, digit-le, digit-zero, digit-not, digit-own-bit, digit-other-bit, same-digits, below-or-beyond}
-use Rattle.platform.specs.Cells.{statusCells}
+use Rattle.platform.specs.Fitted.{statusCells}
 use Rattle.platform.specs.declared.settings.Settings.{Settings}
-use Rattle.machine.specs.Cells.{hasBit, statusIn, clearable, onesIn, oneByte, covered, placed, laneAt}
+use Rattle.machine.specs.Status.{hasBit}
+use Rattle.registers.specs.Registers.{statusIn, clearable, onesIn, oneByte, covered, placed, laneAt}
 use Rattle.machine.specs.declared.Machine.{Machine}
 use Rattle.model.specs.Events.{pm1, eventBit, pm1Mask, eventMask}
 use Rattle.model.specs.EventKinds.{eventKind}

@@ -6,28 +6,30 @@ use mathlib.Core.Path.{_≡_, refl, _∙_, ap, subst}
 use Prim.Native.Nat.{ℕ}
 use Rattle.lists.specs.Any.{any, anyTwo, firstAt}
 use Rattle.bits.specs.Digit.{digit}
-use Rattle.bits.specs.Cell.{within}
+use Rattle.bits.specs.Writes.{within}
 use Rattle.cells.specs.Cells.{flagOf, bitAt, maskOf}
 use Rattle.clock.specs.Clock.{turned, grow, overrides, tickOf}
 use Rattle.runs.specs.Items.{passing, failing, original, moved, stepsOf, Every, Run, after as afterAll, Throughout, Awake}
 use Rattle.sleep.specs.Pairs.{sleepTable, absent, outOfRange, samePair, shared, named, firstFrom}
 use Rattle.platform.specs.Answer.{firstFailing}
 use Rattle.platform.specs.Blocks.{block, present, holds, overlap, passesPorts}
-use Rattle.platform.specs.Rules.{hardwareReduced, wrongBlockLength, wrongGpeLength, justOneZero, lengthRefused, misaligned, placeRefused, overlapRefused, gpeRefused, commandsRefused, homeless, homesRefused, sleepPairsRefused}
+use Rattle.platform.specs.Rules.{hardwareReduced, wrongBlockLength, wrongGpeLength, justOneZero, lengthRefused, misaligned, placeRefused, overlapRefused, gpeRefused, commandsRefused, homesWithoutBlock, homesRefused, sleepPairsRefused}
 use Rattle.platform.specs.declared.settings.Settings.{Settings}
 use Rattle.platform.specs.declared.rules.SetUpAnswer.the-variants as set-up
 use Rattle.fadt.specs.Fields.{dword, settingsOf}
 use Rattle.fadt.specs.Table.{tableShort, standsAt, noSignature, wrongTableLength, wrongSum}
 use Rattle.machine.specs.PowerOn.{powerOn}
-use Rattle.machine.specs.Cells.{hasBit, inStatus, inEnable, statusAfter, enableAfter, controlIn, coversLow, coversHigh, writtenBit}
+use Rattle.machine.specs.Status.{hasBit}
+use Rattle.registers.specs.Registers.{inStatus, inEnable, statusAfter, enableAfter, controlIn, coversLow, coversHigh, writtenBit}
 use Rattle.machine.specs.Lines.{awake, anyEnabled}
 use Rattle.machine.specs.Sleep.{isSleeping, wakeBits, pending, completed}
 use Rattle.machine.specs.SetUp.{setUpFrom, setUpOf}
 use Rattle.machine.specs.declared.Machine.{Machine}
 use Rattle.machine.proofs.Accepted.{accepted-machine}
 use Rattle.model.specs.Answer.{firstApplying}
-use Rattle.model.specs.Bus.{wrongWidth, dataTooWide, leadsNowhere, allowed, isTimer, commandLost, readOf, setsSlpEn, typAfter, completes, armedAfter, namesNone, bmRldAfter, gblRlsAfter, writeOf}
-use Rattle.model.specs.Events.{inS5, pressOf, signalOf, pcieWakeOf, inGpe0, inGpe1, generalRaised, generalEnabled, generalOf, tmrRaised, timed, tickedOnce, ticksOf, eventOf}
+use Rattle.model.specs.Bus.{wrongWidth, dataTooWide, leadsNowhere, allowed, isTimer, commandLost, readOf, writeOf}
+use Rattle.model.specs.Control.{setsSlpEn, typAfter, completes, armedAfter, namesNone, bmRldAfter, gblRlsAfter}
+use Rattle.model.specs.Events.{inS5, pressOf, signalOf, pcieWakeOf, inGpe0, inGpe1, generalRaised, generalEnabled, generalOf, tmrRaised, timed, tickedOnce, tickedBy, eventOf}
 use Rattle.model.specs.Ports.{registerAt, offsetAt}
 use Rattle.model.specs.Raises.{signalChange, pressChange, eventChange, ruleChange, raises}
 use Rattle.model.specs.Step.{answerTo, after}
@@ -162,16 +164,16 @@ abbrev pub pressInB : ℕ
 pressInB = 0x0100
 
 pub alarm-homes : homesRefused (platform alarmInB) ≡ false
-unfolding homesRefused homeless within present
+unfolding homesRefused homesWithoutBlock within present
 alarm-homes = refl
 
 pub press-homes : homesRefused (platform pressInB) ≡ false
-unfolding homesRefused homeless within present
+unfolding homesRefused homesWithoutBlock within present
 press-homes = refl
 
 -- ---- computing
 
 -- to unfold this is to unfold what a step of the machine, and a list of them, compute with
 unfoldable pub steps-compute : Unit {0}
-unfolding any firstAt digit flagOf bitAt maskOf turned grow overrides tickOf absent samePair named firstFrom present holds hasBit inStatus inEnable statusAfter enableAfter controlIn coversLow coversHigh writtenBit awake anyEnabled isSleeping wakeBits pending completed firstApplying wrongWidth dataTooWide leadsNowhere allowed isTimer commandLost readOf setsSlpEn typAfter completes armedAfter namesNone bmRldAfter gblRlsAfter writeOf inS5 pressOf signalOf pcieWakeOf inGpe0 inGpe1 generalRaised generalEnabled generalOf tmrRaised timed tickedOnce ticksOf eventOf registerAt offsetAt signalChange pressChange eventChange ruleChange raises answerTo after livesInB RaisedIn passing failing original moved stepsOf Every Run afterAll Throughout Awake
+unfolding any firstAt digit flagOf bitAt maskOf turned grow overrides tickOf absent samePair named firstFrom present holds hasBit inStatus inEnable statusAfter enableAfter controlIn coversLow coversHigh writtenBit awake anyEnabled isSleeping wakeBits pending completed firstApplying wrongWidth dataTooWide leadsNowhere allowed isTimer commandLost readOf setsSlpEn typAfter completes armedAfter namesNone bmRldAfter gblRlsAfter writeOf inS5 pressOf signalOf pcieWakeOf inGpe0 inGpe1 generalRaised generalEnabled generalOf tmrRaised timed tickedOnce tickedBy eventOf registerAt offsetAt signalChange pressChange eventChange ruleChange raises answerTo after livesInB RaisedIn passing failing original moved stepsOf Every Run afterAll Throughout Awake
 steps-compute = tt

@@ -11,7 +11,7 @@ use Rattle.runs.specs.Items.{Item, event, stepsOf, Every}
 use Rattle.platform.specs.Blocks.{present}
 use Rattle.machine.specs.Fields.{withEvent, withButton, withTime}
 use Rattle.machine.specs.SetUp.{setUpOf}
-use Rattle.model.specs.Answer.{valueOf}
+use Rattle.model.specs.Answer.{stepValue}
 use Rattle.model.specs.Step.{stepOf}
 use Rattle.model.specs.declared.Answer.{Answer}
 use Rattle.model.specs.declared.Answer.the-variants as answer
@@ -116,7 +116,7 @@ unfolding steps-compute
 one-register-moves-refuted d =
     let moves = here pressInB (MovesBy ItemOn before oneRegister) press-homes d in
     let r = moves alarmInGap (withEvent (machine pressInB) 0x400 0) (alarm-in-gap-on pressInB) ((refl, (refl, refl)), tt) (refl, (refl, (refl, refl))) in
-    let z : _≡_ {A = ℕ} 0 0x400 = ap valueOf (r .1 .0) in
+    let z : _≡_ {A = ℕ} 0 0x400 = ap stepValue (r .1 .0) in
     omega arith
 
 -- ticks and then a press of home B: the press is moved before the ticks, which then find the button down
@@ -150,5 +150,5 @@ unfolding steps-compute
 other-side-refuted d =
     let moves = here alarmInB (MovesBy ItemOn otherSide stepOf) alarm-homes d in
     let r = moves alarmInGap (withEvent (machine alarmInB) 0x400 0) (alarm-in-gap-on alarmInB) ((refl, (refl, refl)), tt) (refl, (refl, (refl, refl))) in
-    let z : _≡_ {A = ℕ} 0 0x400 = ap valueOf (r .1 .0) in
+    let z : _≡_ {A = ℕ} 0 0x400 = ap stepValue (r .1 .0) in
     omega arith

@@ -9,7 +9,7 @@ use lib.Dec.{eqb}
 use Rattle.lists.proofs.Tests.{and-left}
 use Rattle.clock.specs.Clock as clock
 use Rattle.platform.specs.declared.settings.Settings.{Settings}
-use Rattle.machine.specs.Cells.{tmrBit}
+use Rattle.machine.specs.Status.{tmrBit}
 use Rattle.model.specs.Events.{StatusBit, pm1, gpe, eventBit, fits}
 use Rattle.model.specs.EventKinds.{EventKind}
 use Rattle.model.specs.EventKinds as kind

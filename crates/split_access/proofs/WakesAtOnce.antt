@@ -7,7 +7,8 @@ use Prim.Native.Nat.{ℕ}
 use Rattle.machine.specs.SetUp.{setUpOf}
 use Rattle.machine.specs.Sleep.{isSleeping, pending, completed}
 use Rattle.machine.specs.declared.Machine.{Machine}
-use Rattle.model.specs.Bus.{completes, namedState, controlled, controlWritten, writeOf}
+use Rattle.model.specs.Bus.{writeOf}
+use Rattle.model.specs.Control.{completes, namedState, controlled, controlWritten}
 use Rattle.model.specs.Step.{registerOf, offsetOf, answerTo, accepted, doneOf, after, stepOf}
 use Rattle.model.specs.declared.Event.{Event}
 use Rattle.model.specs.declared.Register.{Register}

@@ -10,7 +10,7 @@ use native.Mathlib.Omega.{arith}
 use lib.Dec.{lit<}
 use lib.ListN.{length, getD}
 use Rattle.bits.specs.Digit.{digit}
-use Rattle.bits.proofs.Cells.{digit-kept}
+use Rattle.bits.proofs.Writes.{digit-kept}
 use Rattle.bits.proofs.Digits.{digit-and, digit-or, digit-le, digit-zero}
 use Rattle.runs.specs.Items.{Every, Throughout, after as afterAll}
 use Rattle.platform.specs.Blocks.{present}
@@ -18,7 +18,7 @@ use Rattle.platform.specs.Legal.{Guaranteed, HasGpeLength, HasNone}
 use Rattle.platform.specs.Rules.{eventCount}
 use Rattle.platform.specs.declared.block.Block.{Block}
 use Rattle.platform.specs.declared.settings.Settings.{Settings}
-use Rattle.machine.specs.Cells.{placed, statusIn, clearable, onesIn, inStatus, gpeSts}
+use Rattle.registers.specs.Registers.{placed, statusIn, clearable, onesIn, inStatus, gpeSts}
 use Rattle.machine.specs.Lines.{awake}
 use Rattle.machine.specs.PowerOn.{gpeBytes, powerOn}
 use Rattle.machine.specs.SetUp.{setUpOf}

@@ -3,14 +3,15 @@
 use mathlib.Core.Bool.{Bool, true, false, not, cond, _&&_}
 use Prim.Native.Nat.{ℕ}
 use lib.Bits.{bitAnd}
-use Rattle.bits.specs.Cell.{kept}
+use Rattle.bits.specs.Writes.{kept}
 use Rattle.runs.specs.Items.{Item, Every}
-use Rattle.platform.specs.Cells.{statusCells}
+use Rattle.platform.specs.Fitted.{statusCells}
 use Rattle.platform.specs.declared.settings.Settings.{Settings}
-use Rattle.machine.specs.Cells.{shown, placed, covered, inStatus}
+use Rattle.registers.specs.Registers.{shown, placed, covered, inStatus}
 use Rattle.machine.specs.Fields.{withEvent, enter}
 use Rattle.machine.specs.declared.Machine.{Machine}
-use Rattle.model.specs.Bus.{completes, namedState, controlled, writeOf}
+use Rattle.model.specs.Bus.{writeOf}
+use Rattle.model.specs.Control.{completes, namedState, controlled}
 use Rattle.model.specs.Step.{registerOf, offsetOf, answerTo, accepted, after, stepOf}
 use Rattle.model.specs.declared.Access.{Access}
 use Rattle.model.specs.declared.Answer.the-variants as answer

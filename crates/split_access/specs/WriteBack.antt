@@ -9,9 +9,9 @@ use Rattle.bits.specs.Digit.{digit}
 use Rattle.runs.specs.Items.{Every, Throughout, after}
 use Rattle.platform.specs.Blocks.{present}
 use Rattle.platform.specs.declared.settings.Settings.{Settings}
-use Rattle.machine.specs.Cells.{placed, gpeSts}
+use Rattle.registers.specs.Registers.{placed, gpeSts}
 use Rattle.machine.specs.declared.Machine.{Machine}
-use Rattle.model.specs.Answer.{valueOf}
+use Rattle.model.specs.Answer.{stepValue}
 use Rattle.model.specs.Events.{pm1}
 use Rattle.model.specs.Raises.{raises, gpeRaises}
 use Rattle.model.specs.declared.Step.{Step}
@@ -56,11 +56,11 @@ module _ (stepped : Stepping) (m : Machine) (r : Round) where
 
   -- the value that the first half reads
   abbrev pub valueA : ℕ
-  valueA = valueOf (stepped m (readA (m .settings) r) .answer)
+  valueA = stepValue (stepped m (readA (m .settings) r) .answer)
 
   -- the value that the second half reads, after the first gap
   abbrev pub valueB : ℕ
-  valueB = valueOf (stepped (after (nextBy stepped) afterRead (r .gap₁)) (readB (m .settings) r) .answer)
+  valueB = stepValue (stepped (after (nextBy stepped) afterRead (r .gap₁)) (readB (m .settings) r) .answer)
 
   -- all that comes after the first half read: "each half writing what that half read"
   abbrev pub restOf : List Step

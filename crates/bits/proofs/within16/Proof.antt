@@ -1,6 +1,6 @@
 -- `bits::within16` meets its contract: its comparison is the test's own. Assumes nothing.
 use borrow.Author.Needs.{needs}
-use Rattle.bits.specs.Cell.{within}
+use Rattle.bits.specs.Writes.{within}
 use Rattle.bits.proofs.within16.Statement.{statement}
 use Rattle.bits.proofs.within16.Tie as tie
 

@@ -4,7 +4,7 @@ use mathlib.Core.Path.{_≡_, refl, sym, _∙_}
 use mathlib.Core.Bool.{Bool, true, false, false≢true}
 use Prim.Native.Nat.{ℕ}
 use borrow.Author.Needs.{needs}
-use Rattle.clock.specs.AtOnce.{overridden, ranOf, counterAfter, turnsIn, holdAfter, afterOf}
+use Rattle.clock.specs.AtOnce.{offWithin, ranOf, counterAfter, turnsIn, holdAfter, afterOf}
 use Rattle.clock.specs.Clock.{counterBits, startOf}
 use Rattle.clock.proofs.ClosedForm.{ticks-at-once}
 use Rattle.clock.proofs.ticks.Statement.{statement}
@@ -13,7 +13,7 @@ use Rattle.clock.proofs.ticks.Tie as tie
 -- with the button up
 up : (wide down fitted : Bool) (n counter hold : ℕ) → down ≡ false → afterOf wide down fitted n (startOf counter hold)
     ≡ record { counter = counterAfter (counterBits wide) counter n; turns = turnsIn (counterBits wide) counter n; hold = hold; off = false }
-unfolding overridden ranOf holdAfter
+unfolding offWithin ranOf holdAfter
 up wide true fitted n counter hold e = absurd (false≢true (sym e))
 up wide false fitted n counter hold e = rw zero-add refl
 

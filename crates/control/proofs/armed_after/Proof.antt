@@ -1,4 +1,4 @@
-use Rattle.model.specs.Bus.{armedAfter}
+use Rattle.model.specs.Control.{armedAfter}
 use borrow.Author.Needs.{needs}
 use Rattle.control.proofs.armed_after.Statement.{statement}
 use Rattle.control.proofs.armed_after.Tie as tie

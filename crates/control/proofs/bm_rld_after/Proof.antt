@@ -1,4 +1,4 @@
-use Rattle.model.specs.Bus.{bmRldAfter}
+use Rattle.model.specs.Control.{bmRldAfter}
 use borrow.Author.Needs.{needs}
 use Rattle.control.proofs.bm_rld_after.Statement.{statement}
 use Rattle.control.proofs.bm_rld_after.Tie as tie

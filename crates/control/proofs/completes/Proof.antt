@@ -1,4 +1,4 @@
-use Rattle.model.specs.Bus.{completes}
+use Rattle.model.specs.Control.{completes}
 use borrow.Author.Needs.{needs}
 use Rattle.control.proofs.completes.Statement.{statement}
 use Rattle.control.proofs.completes.Tie as tie

@@ -1,4 +1,4 @@
-use Rattle.model.specs.Bus.{gblRlsAfter}
+use Rattle.model.specs.Control.{gblRlsAfter}
 use borrow.Author.Needs.{needs}
 use Rattle.control.proofs.gbl_rls_after.Statement.{statement}
 use Rattle.control.proofs.gbl_rls_after.Tie as tie

@@ -1,5 +1,5 @@
 use mathlib.Core.Path.{sym, _∙_}
-use Rattle.model.specs.Bus.{namesNone}
+use Rattle.model.specs.Control.{namesNone}
 use borrow.Author.Needs.{needs}
 use Rattle.control.proofs.names_none.Statement.{statement}
 use Rattle.control.proofs.names_none.Tie as tie

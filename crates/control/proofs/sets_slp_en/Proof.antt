@@ -1,4 +1,4 @@
-use Rattle.model.specs.Bus.{setsSlpEn}
+use Rattle.model.specs.Control.{setsSlpEn}
 use borrow.Author.Needs.{needs}
 use Rattle.control.proofs.sets_slp_en.Statement.{statement}
 use Rattle.control.proofs.sets_slp_en.Tie as tie

@@ -1,4 +1,4 @@
-use Rattle.model.specs.Bus.{typAfter}
+use Rattle.model.specs.Control.{typAfter}
 use borrow.Author.Needs.{needs}
 use Rattle.control.proofs.typ_after.Statement.{statement}
 use Rattle.control.proofs.typ_after.Tie as tie

@@ -4,9 +4,9 @@ use native.Mathlib.Omega.{arith}
 use native.Mathlib.Nat.{one-mul}
 use lib.Dec.{lit<}
 use lib.Pow.{shl-exact}
-use Rattle.machine.specs.Cells.{hasBit}
+use Rattle.machine.specs.Status.{hasBit}
 use Rattle.registers.proofs.Beyond.{bit-beyond}
-use Rattle.machine.specs.Cells.{controlIn}
+use Rattle.registers.specs.Registers.{controlIn}
 use borrow.Author.Needs.{needs}
 use Rattle.registers.proofs.control_in.Statement.{statement}
 use Rattle.registers.proofs.control_in.Tie as tie

@@ -1,5 +1,5 @@
 use mathlib.Core.Path.{refl}
-use Rattle.machine.specs.Cells.{coversHigh}
+use Rattle.registers.specs.Registers.{coversHigh}
 use Rattle.registers.proofs.covers_high.Statement.{statement}
 use Rattle.registers.proofs.covers_high.Tie as tie
 

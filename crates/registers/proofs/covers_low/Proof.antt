@@ -1,5 +1,5 @@
 use mathlib.Core.Path.{refl}
-use Rattle.machine.specs.Cells.{coversLow}
+use Rattle.registers.specs.Registers.{coversLow}
 use Rattle.registers.proofs.covers_low.Statement.{statement}
 use Rattle.registers.proofs.covers_low.Tie as tie
 

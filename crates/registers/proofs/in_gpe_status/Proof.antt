@@ -1,4 +1,4 @@
-use Rattle.machine.specs.Cells.{inGpeStatus}
+use Rattle.registers.specs.Registers.{inGpeStatus}
 use borrow.Author.Needs.{needs}
 use Rattle.registers.proofs.in_gpe_status.Statement.{statement}
 use Rattle.registers.proofs.in_gpe_status.Tie as tie

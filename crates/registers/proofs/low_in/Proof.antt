@@ -1,7 +1,7 @@
 -- `registers::low_in` meets its contract: what a mask of 16 bits lets through fits 16 bits. Assumes nothing.
 use native.Mathlib.Nat.{mul-one}
 use borrow.Author.Needs.{needs}
-use Rattle.bits.proofs.Cells.{masked-lt}
+use Rattle.bits.proofs.Writes.{masked-lt}
 use Rattle.registers.proofs.low_in.Statement.{statement}
 use Rattle.registers.proofs.low_in.Tie as tie
 

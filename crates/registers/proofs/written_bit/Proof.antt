@@ -3,7 +3,7 @@ use mathlib.Core.Path.{sym}
 use Prim.Native.Nat.{_<_, _^_}
 use native.Mathlib.Nat.{lt-of-lt-of-le, div-eq-of-lt}
 use lib.Pow.{pow-mono}
-use Rattle.machine.specs.Cells.{writtenBit}
+use Rattle.registers.specs.Registers.{writtenBit}
 use borrow.Author.Needs.{needs}
 use Rattle.registers.proofs.written_bit.Statement.{statement}
 use Rattle.registers.proofs.written_bit.Tie as tie

@@ -7,8 +7,8 @@ use Rattle.session.proofs.session.Tie as tie
 platform-line-reads-requires : tie.Need-platform-line-reads-requires
 platform-line-reads-requires c κs = search needs
 
-settled-requires : tie.Need-settled-requires
-settled-requires c κs = search needs
+set-up-by-requires : tie.Need-set-up-by-requires
+set-up-by-requires c κs = search needs
 
 enum-told : tie.Need-enum-told
 enum-told c = search needs
@@ -26,13 +26,13 @@ returns : tie.Need-returns
 returns c =
     let start : _ = c .before .before .before .before .before .before .before .before .before .before .before .before in
     set-up-done (start .args .table .now) (start .args .source .now) (start .args .buf .now) _ (sym (c .before .before .before .before .before .before .before .before .platform-line-reads .ensures) ∙ c .before .before .before .before .before .before .before .if1 .taken)
-    (c .before .before .before .before .before .before .settled .ensures) _ _ (c .before .before .before .before .enum-told .given .1) (c .before .before .run .ensures)
+    (c .before .before .before .before .before .before .set-up-by .ensures) _ _ (c .before .before .before .before .enum-told .given .1) (c .before .before .run .ensures)
 
 returns-2 : tie.Need-returns-2
 returns-2 c =
     let start : _ = c .before .before .before .before .before .before .before .before .before in
     set-up-refused (start .args .table .now) (start .args .source .now) (start .args .buf .now) _ (sym (c .before .before .before .before .before .platform-line-reads .ensures) ∙ c .before .before .before .before .if1 .taken)
-    (c .before .before .before .settled .ensures) _ (c .before .answer .given .1)
+    (c .before .before .before .set-up-by .ensures) _ (c .before .answer .given .1)
 
 returns-3 : tie.Need-returns-3
 returns-3 c =
@@ -44,7 +44,7 @@ session-spec =
     tie.close
     (tie.spec
     platform-line-reads-requires
-    settled-requires
+    set-up-by-requires
     enum-told
     run-requires
     enum-known-answer

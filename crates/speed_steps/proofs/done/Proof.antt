@@ -1,4 +1,4 @@
-use Rattle.speed_steps.specs.Rows.{doneOf}
+use Rattle.speed_steps.specs.Rows.{runStep}
 use borrow.Author.Needs.{needs}
 use Rattle.speed_steps.proofs.done.Statement.{statement}
 use Rattle.speed_steps.proofs.done.Tie as tie
@@ -25,7 +25,7 @@ wrapping-add-u64-requires : tie.Need-wrapping-add-u64-requires
 wrapping-add-u64-requires c κs = search needs
 
 returns : tie.Need-returns
-unfolding doneOf
+unfolding runStep
 returns c = simp (c .wrapping-add-u64 .ensures, c .before .before .number .ensures, c .before .before .before .value .ensures, c .before .before .before .before .step .ensures)
 
 pub done-spec : {M : Type 1} → statement M

@@ -4,13 +4,13 @@ use mathlib.Core.Path.{_≡_, refl, sym, _∙_}
 use Prim.Native.Nat.{suc, _-_}
 use borrow.Author.Needs.{needs}
 use native.Mathlib.Omega.{arith}
-use Rattle.speed_steps.specs.Rows.{stepsOf}
+use Rattle.speed_steps.specs.Rows.{runSteps}
 use Rattle.speed_steps.proofs.Laws.{steps-turn, steps-end}
 use Rattle.speed_steps.proofs.steps.Statement.{statement}
 use Rattle.speed_steps.proofs.steps.Tie as tie
 
 abbrev Inv-loop : tie.InvT-loop
-Inv-loop row p n r₀ k₀ left₀ r k left = stepsOf row p left k r ≡ stepsOf row p n 0 r₀
+Inv-loop row p n r₀ k₀ left₀ r k left = runSteps row p left k r ≡ runSteps row p n 0 r₀
 
 abbrev μ-loop : tie.MeasureT-loop
 μ-loop row p n r₀ k₀ left₀ r k left = left

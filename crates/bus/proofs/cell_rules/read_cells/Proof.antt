@@ -1,7 +1,7 @@
 -- `bus::cell_rules::read_cells` meets its contract: each arm is the rule of its byte, and past a register's bytes nothing shows. Assumes nothing.
 use Rattle.model.specs.Bus.{readOf}
 use borrow.Author.Needs.{needs}
-use Rattle.machine.specs.Cells.{inStatus, inEnable}
+use Rattle.registers.specs.Registers.{inStatus, inEnable}
 use Rattle.bus.proofs.Laws.{cell-in-status, cell-past-status, past-four, past-two, event-read-past, control-read-past}
 use Rattle.bus.proofs.cell_rules.read_cells.Statement.{statement}
 use Rattle.bus.proofs.cell_rules.read_cells.Tie as tie
@@ -63,8 +63,8 @@ timer-register-requires c κs = search needs
 enum-known-r-3 : tie.Need-enum-known-r-3
 enum-known-r-3 c = search needs
 
-gpe-cell-requires : tie.Need-gpe-cell-requires
-gpe-cell-requires c κs = search needs
+gpe-number-requires : tie.Need-gpe-number-requires
+gpe-number-requires c κs = search needs
 
 gpe-sts-byte-requires : tie.Need-gpe-sts-byte-requires
 gpe-sts-byte-requires c κs = search needs
@@ -125,11 +125,11 @@ returns-11 c = simp (c .timer-register .ensures, c .before .enum-told3 .given .1
 
 returns-12 : tie.Need-returns-12
 unfolding readOf
-returns-12 c = simp (c .gpe-sts-byte .ensures, cell-in-status _ _ _ _ (c .before .before .gpe-cell .ensures) (c .before .if1 .taken), c .before .before .before .before .r3 .given .1)
+returns-12 c = simp (c .gpe-sts-byte .ensures, cell-in-status _ _ _ _ (c .before .before .gpe-number .ensures) (c .before .if1 .taken), c .before .before .before .before .r3 .given .1)
 
 returns-13 : tie.Need-returns-13
 unfolding readOf
-returns-13 c = simp (c .gpe-en-byte .ensures, cell-past-status _ _ _ _ (c .before .before .gpe-cell .ensures) (c .before .if1 .left), c .before .before .before .before .r3 .given .1)
+returns-13 c = simp (c .gpe-en-byte .ensures, cell-past-status _ _ _ _ (c .before .before .gpe-number .ensures) (c .before .if1 .left), c .before .before .before .before .r3 .given .1)
 
 returns-14 : tie.Need-returns-14
 unfolding readOf
@@ -158,7 +158,7 @@ read-cells-spec =
     enum-told-3
     timer-register-requires
     enum-known-r-3
-    gpe-cell-requires
+    gpe-number-requires
     gpe-sts-byte-requires
     cast-result
     gpe-en-byte-requires

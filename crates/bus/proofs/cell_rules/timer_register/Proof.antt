@@ -4,7 +4,7 @@ use mathlib.Core.Path.{_≡_, refl, sym}
 use Prim.Native.Nat.{ℕ, _%_, _^_, _<_}
 use native.Mathlib.Nat.{mod-eq-of-lt}
 use Rattle.clock.specs.Clock.{counterBits}
-use Rattle.platform.specs.Cells.{wideTimer}
+use Rattle.platform.specs.Fitted.{wideTimer}
 use Rattle.machine.specs.declared.Machine.{Machine}
 use borrow.Author.Needs.{needs}
 use Rattle.bus.proofs.cell_rules.timer_register.Statement.{statement}

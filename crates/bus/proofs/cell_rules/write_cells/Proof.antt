@@ -1,8 +1,8 @@
 -- `bus::cell_rules::write_cells` meets its contract: each arm is the rule of its byte, and past a register's bytes a write does nothing. Assumes nothing.
 use Rattle.model.specs.Bus.{writeOf}
 use borrow.Author.Needs.{needs}
-use Rattle.model.specs.Bus.{setsSlpEn, typAfter, completes, armedAfter}
-use Rattle.machine.specs.Cells.{coversHigh, inStatus, inEnable, statusAfter, enableAfter}
+use Rattle.model.specs.Control.{setsSlpEn, typAfter, completes, armedAfter}
+use Rattle.registers.specs.Registers.{coversHigh, inStatus, inEnable, statusAfter, enableAfter}
 use Rattle.bus.proofs.Laws.{cell-in-status, cell-past-status, status-byte-written, enable-byte-written, past-four, past-two, event-write-past, control-write-past}
 use Rattle.bus.proofs.cell_rules.write_cells.Statement.{statement}
 use Rattle.bus.proofs.cell_rules.write_cells.Tie as tie
@@ -70,8 +70,8 @@ enum-told-3 c = search needs
 enum-known-r-3 : tie.Need-enum-known-r-3
 enum-known-r-3 c = search needs
 
-gpe-cell-requires : tie.Need-gpe-cell-requires
-gpe-cell-requires c κs = search needs
+gpe-number-requires : tie.Need-gpe-number-requires
+gpe-number-requires c κs = search needs
 
 gpe-sts-cleared-requires : tie.Need-gpe-sts-cleared-requires
 gpe-sts-cleared-requires c κs = search needs
@@ -132,11 +132,11 @@ returns-11 c = simp (c .enum-told3 .given .1)
 
 returns-12 : tie.Need-returns-12
 unfolding writeOf
-returns-12 c = simp (c .with-gpe-sts .ensures, c .before .gpe-sts-cleared .ensures, status-byte-written (c .before .before .before .before .before .before .before .before .args .m) _ _ (c .before .before .before .before .before .before .before .before .args .written) (cell-in-status _ _ _ _ (c .before .before .before .gpe-cell .ensures) (c .before .before .if1 .taken)), c .before .before .before .before .before .r3 .given .1)
+returns-12 c = simp (c .with-gpe-sts .ensures, c .before .gpe-sts-cleared .ensures, status-byte-written (c .before .before .before .before .before .before .before .before .args .m) _ _ (c .before .before .before .before .before .before .before .before .args .written) (cell-in-status _ _ _ _ (c .before .before .before .gpe-number .ensures) (c .before .before .if1 .taken)), c .before .before .before .before .before .r3 .given .1)
 
 returns-13 : tie.Need-returns-13
 unfolding writeOf
-returns-13 c = simp (c .with-gpe-en .ensures, c .before .gpe-en-taken .ensures, enable-byte-written (c .before .before .before .before .before .before .before .before .args .m) _ _ (c .before .before .before .before .before .before .before .before .args .written) (cell-past-status _ _ _ _ (c .before .before .before .gpe-cell .ensures) (c .before .before .if1 .left)), c .before .before .before .before .before .r3 .given .1)
+returns-13 c = simp (c .with-gpe-en .ensures, c .before .gpe-en-taken .ensures, enable-byte-written (c .before .before .before .before .before .before .before .before .args .m) _ _ (c .before .before .before .before .before .before .before .before .args .written) (cell-past-status _ _ _ _ (c .before .before .before .gpe-number .ensures) (c .before .before .if1 .left)), c .before .before .before .before .before .r3 .given .1)
 
 returns-14 : tie.Need-returns-14
 unfolding writeOf
@@ -167,7 +167,7 @@ write-cells-spec =
     with-arb-dis-requires
     enum-told-3
     enum-known-r-3
-    gpe-cell-requires
+    gpe-number-requires
     gpe-sts-cleared-requires
     with-gpe-sts-requires
     gpe-en-taken-requires

@@ -2,7 +2,7 @@
 use Prim.Native.Nat.{_≤_, _/_}
 use native.Mathlib.Omega.{arith}
 use lib.ListN.{length, List·getD-eq-default}
-use Rattle.machine.specs.Cells.{hasBit}
+use Rattle.machine.specs.Status.{hasBit}
 use mathlib.Core.Path.{refl}
 use borrow.Author.Needs.{needs}
 use Rattle.events.proofs.general.is_enabled.Statement.{statement}

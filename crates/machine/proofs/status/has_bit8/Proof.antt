@@ -1,5 +1,5 @@
 use mathlib.Core.Path.{refl}
-use Rattle.machine.specs.Cells.{hasBit}
+use Rattle.machine.specs.Status.{hasBit}
 use Rattle.machine.proofs.status.has_bit8.Statement.{statement}
 use Rattle.machine.proofs.status.has_bit8.Tie as tie
 

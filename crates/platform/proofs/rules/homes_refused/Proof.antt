@@ -13,15 +13,15 @@ within16-requires c κs = search needs
 within16-requires-2 : tie.Need-within16-requires-2
 within16-requires-2 c κs = search needs
 
-homeless-requires : tie.Need-homeless-requires
-homeless-requires c κs = search needs
+homes-without-block-requires : tie.Need-homes-without-block-requires
+homes-without-block-requires c κs = search needs
 
-homeless-requires-2 : tie.Need-homeless-requires-2
-homeless-requires-2 c κs = search needs
+homes-without-block-requires-2 : tie.Need-homes-without-block-requires-2
+homes-without-block-requires-2 c κs = search needs
 
 returns : tie.Need-returns
 unfolding homesRefused
-returns c = simp (c .homeless2 .ensures, c .before .homeless .ensures, c .before .before .within162 .ensures, c .before .before .before .within16 .ensures, c .before .before .before .before .mask .ensures, known-bits)
+returns c = simp (c .homes-without-block2 .ensures, c .before .homes-without-block .ensures, c .before .before .within162 .ensures, c .before .before .before .within16 .ensures, c .before .before .before .before .mask .ensures, known-bits)
 
 pub homes-refused-spec : {M : Type 1} → statement M
 homes-refused-spec =
@@ -30,6 +30,6 @@ homes-refused-spec =
     mask-requires
     within16-requires
     within16-requires-2
-    homeless-requires
-    homeless-requires-2
+    homes-without-block-requires
+    homes-without-block-requires-2
     returns)

@@ -1,44 +1,17 @@
--- The cells: where each lives, how a read shows them and what a write does to them.
+-- The registers that blocks A and B and the GPE blocks show: where each bit lives, what a read shows, and what a write does.
 use mathlib.Core.Bool.{Bool, not, cond, _&&_, _||_}
 use mathlib.Core.List.{List}
 use Prim.Native.Nat.{ℕ, _*_, _-_, _/_, _%_, _^_}
 use lib.Bits.{bitAnd, bitOr}
 use lib.Dec.{eqb, ltb, leb}
 use lib.ListN.{getD, set}
-use Rattle.bits.specs.Cell.{kept, clearedBy, takenBy, lane, byteAt}
+use Rattle.acpi.specs.Bits.{«SCI_EN», «BM_RLD», «SLP_TYPx»}
+use Rattle.bits.specs.Writes.{kept, clearedBy, takenBy, lane, byteAt}
 use Rattle.platform.specs.Blocks.{present}
-use Rattle.platform.specs.Cells.{statusCells, enableCells}
+use Rattle.platform.specs.Fitted.{statusCells, enableCells}
 use Rattle.platform.specs.declared.settings.Settings.{Settings}
+use Rattle.machine.specs.Status.{hasBit}
 use Rattle.machine.specs.declared.Machine.{Machine}
-
--- the bits of the table, by their status names
-abbrev pub tmrBit : ℕ
-tmrBit = 0x0001
-
-abbrev pub bmBit : ℕ
-bmBit = 0x0010
-
-abbrev pub gblBit : ℕ
-gblBit = 0x0020
-
-abbrev pub pwrbtnBit : ℕ
-pwrbtnBit = 0x0100
-
-abbrev pub slpbtnBit : ℕ
-slpbtnBit = 0x0200
-
-abbrev pub rtcBit : ℕ
-rtcBit = 0x0400
-
-abbrev pub pciexpWakeBit : ℕ
-pciexpWakeBit = 0x4000
-
-abbrev pub wakBit : ℕ
-wakBit = 0x8000
-
--- a bit is among those of a mask
-unfoldable pub hasBit : ℕ → ℕ → Bool
-hasBit mask bit = not (eqb (bitAnd mask bit) 0)
 
 -- "one bit set meaning block B": the bits that live in the block
 abbrev pub homesIn : ℕ → Bool → ℕ
@@ -119,7 +92,7 @@ enableAfter m b width offset written = cond (inEnable offset) (enableTaken m b w
 
 -- ---- the PM1 control registers
 
--- a control bit, 0 SCI_EN, 1 BM_RLD or 2 GBL_RLS, lives in the block
+-- a control bit, SCI_EN, BM_RLD or GBL_RLS, lives in the block
 unfoldable pub controlIn : Settings → Bool → ℕ → Bool
 controlIn s b bit = hasBit (homesIn (s .«control_homes») b) (2 ^ bit)
 
@@ -138,7 +111,7 @@ slpTyp m b = cond b (m .«slp_typ_b») (m .«slp_typ_a»)
 -- "0 SCI_EN (writes ignored), 1 BM_RLD, 2 GBL_RLS (.. reads zero), each in its home; 10 to 12 SLP_TYP in both blocks; 13 SLP_EN, reads zero"
 abbrev pub controlRegister : Machine → Bool → ℕ
 controlRegister m b =
-    bitOr (bitOr (bitWhen (controlIn (m .settings) b 0 && m .«sci_en») 0) (bitWhen (controlIn (m .settings) b 1 && m .«bm_rld») 1)) (slpTyp m b % 8 * 2 ^ 10)
+    bitOr (bitOr (bitWhen (controlIn (m .settings) b «SCI_EN» && m .«sci_en») «SCI_EN») (bitWhen (controlIn (m .settings) b «BM_RLD» && m .«bm_rld») «BM_RLD»)) (slpTyp m b % 8 * 2 ^ «SLP_TYPx»)
 
 -- what a read at the offset shows: the register has two bytes
 abbrev pub controlShown : Machine → Bool → ℕ → ℕ → ℕ

@@ -1,6 +1,6 @@
 use borrow.Author.Needs.{needs}
-use Rattle.session.proofs.settled.Statement.{statement}
-use Rattle.session.proofs.settled.Tie as tie
+use Rattle.session.proofs.set_up_by.Statement.{statement}
+use Rattle.session.proofs.set_up_by.Tie as tie
 
 line-from-requires : tie.Need-line-from-requires
 line-from-requires c κs = search needs
@@ -23,8 +23,8 @@ set-up-requires c κs = search needs
 returns : tie.Need-returns
 returns c = simp (c .set-up .ensures, c .before .pairs .ensures, c .before .before .power-override .ensures, c .before .before .before .control-homes .ensures, c .before .before .before .before .event-homes .ensures, c .before .before .before .before .before .line-from .ensures)
 
-pub settled-spec : {M : Type 1} → statement M
-settled-spec =
+pub set-up-by-spec : {M : Type 1} → statement M
+set-up-by-spec =
     tie.close
     (tie.spec
     line-from-requires

@@ -10,7 +10,7 @@ use lib.Pow.{pow-pos, ones-sub-lt}
 use lib.Bits.{bitAnd, bitOr, and-comm, or-comm, and-self, and-zero-r, or-zero-r, and-le-r, or-lt}
 use borrow.Author.Tests.{eqb-true, eq-eqb}
 use Rattle.bits.specs.Digit.{digit}
-use Rattle.bits.specs.Cell.{kept, clearedBy, takenBy, within}
+use Rattle.bits.specs.Writes.{kept, clearedBy, takenBy, within}
 use Rattle.bits.proofs.Digits.{digit-le, digit-and, digit-or, digit-zero, digit-not, same-digits-below}
 use Rattle.bits.proofs.Algebra.{and-assoc, or-assoc, and-swap, or-swap, and-over-or, masked-or, disjoint-digit}
 

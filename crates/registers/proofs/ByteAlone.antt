@@ -3,9 +3,9 @@
 use mathlib.Core.Bool.{Bool, or-true}
 use mathlib.Core.Path.{_≡_, refl}
 use Prim.Native.Nat.{ℕ}
-use Rattle.bits.specs.Cell.{clearedByte, takenByte}
-use Rattle.machine.specs.Cells.{clearable, enableIn, laneAt, statusCleared, enableTaken}
+use Rattle.bits.specs.Writes.{clearedByte, takenByte}
+use Rattle.registers.specs.Registers.{clearable, enableIn, laneAt, statusCleared, enableTaken}
 use Rattle.machine.specs.declared.Machine.{Machine}
 
 module _ (m : Machine) (b : Bool) (offset written : ℕ) where
   pub status-byte : statusCleared m b 1 offset written ≡ clearedByte 16 (laneAt offset) (m .«pm1_sts») written (clearable m b)
