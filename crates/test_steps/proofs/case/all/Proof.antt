@@ -1,10 +1,10 @@
--- `test_steps::case::run` is safe and ends: the next line begins further on, and the measure is what is left of the script. Assumes nothing.
+-- The next line begins further on: the measure is what is left of the source.
 use Prim.Native.Nat.{_-_}
 use native.Mathlib.Omega.{arith}
 use lib.ListN.{length}
 use Rattle.text.proofs.Lines.{next-line-further}
-use Rattle.test_steps.proofs.case.run.Statement.{statement}
-use Rattle.test_steps.proofs.case.run.Tie as tie
+use Rattle.test_steps.proofs.case.all.Statement.{statement}
+use Rattle.test_steps.proofs.case.all.Tie as tie
 
 abbrev Inv-loop : tie.InvT-loop
 Inv-loop source m₀ start₀ m start = Unit {0}
@@ -12,8 +12,8 @@ Inv-loop source m₀ start₀ m start = Unit {0}
 abbrev μ-loop : tie.MeasureT-loop
 μ-loop source m₀ start₀ m start = length source - start
 
-power-on-requires : tie.Need-power-on-requires Inv-loop μ-loop
-power-on-requires c κs = tt
+session-requires : tie.Need-session-requires Inv-loop μ-loop
+session-requires c κs = tt
 
 loop-holds : tie.Need-loop-holds Inv-loop μ-loop
 loop-holds c = tt
@@ -39,13 +39,13 @@ loop-again c = tt
 returns : tie.Need-returns Inv-loop μ-loop
 returns c = tt
 
-pub run-spec : {M : Type 1} → statement M
-run-spec =
+pub all-spec : {M : Type 1} → statement M
+all-spec =
     tie.close
     (tie.spec
     Inv-loop
     μ-loop
-    power-on-requires
+    session-requires
     loop-holds
     line-from-requires
     line-requires
