@@ -1,6 +1,6 @@
 // The table that QEMU makes for its machine type pc.
-use crate::case::NO;
 use crate::case::answer;
+use test_tables::NO_STATE;
 
 pub(crate) fn real_table() {
     let path = b"qemu-pc.fadt";
@@ -19,7 +19,7 @@ pub(crate) fn real_table() {
         0,
         0,
         false,
-        [0x0000, NO, NO, 0x0101, 0x0202, 0x0303],
+        [0x0000, NO_STATE, NO_STATE, 0x0101, 0x0202, 0x0303],
     );
     answer(
         b"qemu-pc.fadt, S0 absent and S5 (0, 0)",
@@ -27,7 +27,7 @@ pub(crate) fn real_table() {
         0,
         0,
         false,
-        [NO, NO, NO, 0x0101, 0x0202, 0x0000],
+        [NO_STATE, NO_STATE, NO_STATE, 0x0101, 0x0202, 0x0000],
     );
     answer(
         b"qemu-pc.fadt, S0 and S5 (0, 0)",
@@ -35,7 +35,7 @@ pub(crate) fn real_table() {
         0,
         0,
         false,
-        [0x0000, NO, NO, 0x0101, 0x0202, 0x0000],
+        [0x0000, NO_STATE, NO_STATE, 0x0101, 0x0202, 0x0000],
     );
     answer(
         b"qemu-pc.fadt, event home 8",
@@ -43,6 +43,6 @@ pub(crate) fn real_table() {
         0x0100,
         0,
         false,
-        [0x0000, NO, NO, 0x0101, 0x0202, 0x0303],
+        [0x0000, NO_STATE, NO_STATE, 0x0101, 0x0202, 0x0303],
     );
 }

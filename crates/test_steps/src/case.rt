@@ -1,18 +1,20 @@
 // A case: a script, run from power-on.
-use crate::platforms::Platform;
 use crate::platforms::power_on;
+use crate::platforms::session;
 use libc::STDOUT_FILENO;
 use machine::Machine;
 use model::Answer;
 use model::Step;
 use script::Line;
+use text::part;
+use text::same;
 
 // More than a step's text or a listing's line has.
 const ROOM: usize = 64;
 
-// Runs a script, a line a step. Empty lines and the spaces that a line begins with are layout.
-pub(crate) fn run(platform: Platform, source: &[u8]) {
-    let mut m = power_on(platform);
+// Runs the cases, a line a step.
+pub(crate) fn all(source: &[u8]) {
+    let mut m = session();
     let mut start = 0;
     while start < source.len() {
         let next = line(m, text::line_from(source, start));
@@ -21,24 +23,19 @@ pub(crate) fn run(platform: Platform, source: &[u8]) {
     }
 }
 
-fn line(m: Machine, source: &[u8]) -> Machine {
-    let at = indent(source);
-    if at < source.len() {
-        said(m, &source[at..])
-    } else {
-        m
+fn line(m: Machine, words: &[u8]) -> Machine {
+    if is_silent(words) {
+        return m;
     }
+    if same(part(words, b' ', 0), b"platform") {
+        return power_on(part(words, b' ', 1));
+    }
+    said(m, words)
 }
 
-fn indent(source: &[u8]) -> usize {
-    let mut i = 0;
-    while i < source.len() {
-        if source[i] != b' ' {
-            return i;
-        }
-        i += 1;
-    }
-    i
+// An empty line, or one that begins with a slash.
+fn is_silent(words: &[u8]) -> bool {
+    words.len() == 0 || words[0] == b'/'
 }
 
 // Writes a line and, if it says a step, does it and writes what came of it.
