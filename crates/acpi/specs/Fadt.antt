@@ -3,9 +3,21 @@ use Prim.Native.Nat.{ℕ}
 
 -- ---- FADT fields
 
+-- 4 bytes: FACP
+abbrev pub «SIGNATURE» : ℕ
+«SIGNATURE» = 0
+
 -- 4 bytes: the table's own length
 abbrev pub «LENGTH» : ℕ
 «LENGTH» = 4
+
+-- of the table's layout
+abbrev pub «REVISION» : ℕ
+«REVISION» = 8
+
+-- with it the table's bytes sum to zero
+abbrev pub «CHECKSUM» : ℕ
+«CHECKSUM» = 9
 
 -- 4 bytes: the SMI command port
 abbrev pub «SMI_CMD» : ℕ

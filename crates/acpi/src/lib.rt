@@ -45,7 +45,13 @@ pub const SLP_EN: u8 = 13; // written: sleep by the type
 pub const ARB_DIS: u8 = 0; // the bus arbiter is disabled
 
 // FADT fields
+pub const SIGNATURE: u8 = 0; // 4 bytes: FACP
+
 pub const LENGTH: u8 = 4; // 4 bytes: the table's own length
+
+pub const REVISION: u8 = 8; // of the table's layout
+
+pub const CHECKSUM: u8 = 9; // with it the table's bytes sum to zero
 
 pub const SMI_CMD: u8 = 48; // 4 bytes: the SMI command port
 

@@ -4,7 +4,7 @@ use mathlib.Core.List.{List, [], _∷_}
 use Prim.Native.Nat.{ℕ, suc, _+_, _%_}
 use lib.Dec.{eqb, ltb}
 use lib.ListN.{length, take}
-use Rattle.acpi.specs.Fadt.{«LENGTH»}
+use Rattle.acpi.specs.Fadt.{«SIGNATURE», «LENGTH»}
 use Rattle.platform.specs.Answer.{Rule, _when_}
 use Rattle.platform.specs.Rules.{settingsRules}
 use Rattle.platform.specs.declared.settings.Settings.{Settings}
@@ -26,7 +26,7 @@ standsAt i (x ∷ xs) t = eqb (byte t i) x && standsAt (suc i) xs t
 
 -- 2: "the first four bytes are not the signature FACP"
 unfoldable pub noSignature : List ℕ → Bool
-noSignature t = not (standsAt 0 signature t)
+noSignature t = not (standsAt «SIGNATURE» signature t)
 
 -- "length 4"
 abbrev pub tableLength : List ℕ → ℕ

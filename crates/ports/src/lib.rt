@@ -1,11 +1,11 @@
 // Where a port leads, and which accesses are refused.
 mod map;
-mod tests;
+mod refusals;
 
 pub use map::walk;
-pub use tests::allowed;
-pub use tests::command_lost;
-pub use tests::data_too_wide;
-pub use tests::is_timer;
-pub use tests::leads_nowhere;
-pub use tests::wrong_width;
+pub use refusals::allowed;
+pub use refusals::command_lost;
+pub use refusals::data_too_wide;
+pub use refusals::is_timer;
+pub use refusals::leads_nowhere;
+pub use refusals::wrong_width;

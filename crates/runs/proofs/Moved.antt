@@ -10,11 +10,11 @@ use Rattle.runs.proofs.Fit.{Sortable, Fit, every-passing, every-failing
 
 module _ {S X A : Type 0} (ans : S → X → A) (next : S → X → S) (Ok : S → Type 0) (before : X → Bool) where
   -- the steps that go before, and those that stay
-  abbrev goers : List (X × A) → List (X × A)
-  goers l = passing (λ p. before (stepIn p)) l
+  abbrev moved-before : List (X × A) → List (X × A)
+  moved-before l = passing (λ p. before (stepIn p)) l
 
-  abbrev stayers : List (X × A) → List (X × A)
-  stayers l = failing (λ p. before (stepIn p)) l
+  abbrev moved-after : List (X × A) → List (X × A)
+  moved-after l = failing (λ p. before (stepIn p)) l
 
   -- l and then the rest run from s to t, awake until the rest begins
   abbrev AwakeRun : List (X × A) → S → S → List (X × A) → Type 0
@@ -71,12 +71,12 @@ module _ {S X A : Type 0} (ans : S → X → A) (next : S → X → S) (Ok : S �
         step-placed true g l k f s r = r
         step-placed false g l k f s r = step-passes-list g l k (f refl) s r
 
-        gap-sorted : (l : List (X × A)) → Sortable before Free (map stepIn l) → (s : S) → AwakeRun rest t s l → AwakeRun rest t s (goers l ++ stayers l)
+        gap-sorted : (l : List (X × A)) → Sortable before Free (map stepIn l) → (s : S) → AwakeRun rest t s l → AwakeRun rest t s (moved-before l ++ moved-after l)
         unfolding Sortable passing failing
         gap-sorted [] f s r = r
         gap-sorted (g ∷ l) f s r =
-            let r′ = under-a-step g l (goers l ++ stayers l) (gap-sorted l (f .1)) s r in
-            step-placed (before (stepIn g)) g (goers l) (stayers l) (λ e. every-passing before (Free (stepIn g)) l (f .0 e)) s r′
+            let r′ = under-a-step g l (moved-before l ++ moved-after l) (gap-sorted l (f .1)) s r in
+            step-placed (before (stepIn g)) g (moved-before l) (moved-after l) (λ e. every-passing before (Free (stepIn g)) l (f .0 e)) s r′
 
       module _ (h h′ : X × A) (rest : List (X × A)) (t : S) where
         second-half-passes : (l : List (X × A))
@@ -114,13 +114,13 @@ module _ {S X A : Type 0} (ans : S → X → A) (next : S → X → S) (Ok : S �
             → Fit before Free FreeLast (event (stepIn h) (map stepIn gap) (stepIn h′))
             → (s : S)
             → AwakeRun (h′ ∷ rest) t s (h ∷ gap)
-            → Run ans next s (goers gap ++ (h ∷ h′ ∷ (stayers gap ++ rest))) t
+            → Run ans next s (moved-before gap ++ (h ∷ h′ ∷ (moved-after gap ++ rest))) t
         unfolding Fit
         event-moved gap f s r =
-            let r′ = under-a-step (h′ ∷ rest) t h gap (goers gap ++ stayers gap) (gap-sorted (h′ ∷ rest) t gap (f .2)) s r in
+            let r′ = under-a-step (h′ ∷ rest) t h gap (moved-before gap ++ moved-after gap) (gap-sorted (h′ ∷ rest) t gap (f .2)) s r in
             let pass = every-passing before (Free (stepIn h)) gap (f .0) in
             let last = every-failing before (λ g. FreeLast g (stepIn h′)) gap (f .1) in
-            halves-meet (goers gap) (stayers gap) last s (step-passes-list (h′ ∷ rest) t h (goers gap) (stayers gap) pass s r′)
+            halves-meet (moved-before gap) (moved-after gap) last s (step-passes-list (h′ ∷ rest) t h (moved-before gap) (moved-after gap) pass s r′)
 
       pub moved-runs : (items : List (Item (X × A))) (s t : S)
           → Every (Fit before Free FreeLast) (stepsOf items)

@@ -4,10 +4,11 @@ use mathlib.Core.List.{List, [], _∷_}
 use Prim.Native.Nat.{ℕ, _+_, _-_, _/_, _%_}
 use lib.Dec.{eqb, ltb, leb}
 use lib.ListN.{take, getD, set}
+use Rattle.acpi.specs.Fadt.{«LENGTH», «CHECKSUM», «SMI_CMD», «PM1a_EVT_BLK», «GPE1_BLK», «FLAGS»}
 
--- the fields of four bytes: the length (4), SMI_CMD (48), the addresses (56 to 84) and the flags (112); every other has one
+-- the fields of four bytes: the length, SMI_CMD, the addresses and the flags; every other has one
 unfoldable pub isWide : ℕ → Bool
-isWide at = eqb at 4 || eqb at 48 || (leb 56 at && leb at 84) || eqb at 112
+isWide at = eqb at «LENGTH» || eqb at «SMI_CMD» || (leb «PM1a_EVT_BLK» at && leb at «GPE1_BLK») || eqb at «FLAGS»
 
 -- the lowest byte of a value at an offset
 abbrev pub byteSet : List ℕ → ℕ → ℕ → List ℕ
@@ -31,10 +32,10 @@ abbrev pub sum : List ℕ → ℕ
 sum [] = 0
 sum (x ∷ xs) = x + sum xs
 
--- the sum of as many bytes as the lowest byte of the length says, the checksum (9) being zero
+-- the sum of as many bytes as the lowest byte of the length says, the checksum being zero
 abbrev pub othersSum : List ℕ → ℕ
-othersSum t = sum (take (getD t 4 0) (set t 9 0)) % 256
+othersSum t = sum (take (getD t «LENGTH» 0) (set t «CHECKSUM» 0)) % 256
 
 -- the checksum with which they sum to this, modulo 256
 unfoldable pub summingTo : ℕ → List ℕ → List ℕ
-summingTo s t = set t 9 ((s + 256 - othersSum t) % 256)
+summingTo s t = set t «CHECKSUM» ((s + 256 - othersSum t) % 256)

@@ -1,50 +1,50 @@
-// The FADT's fields by byte offset, and those of document 01's worked session.
+// The FADT's fields by byte offset, as wide as their values, and those of document 01's worked session.
 
-pub const SIGNATURE: u32 = 0; // four bytes: FACP
+pub const SIGNATURE: u32 = acpi::SIGNATURE as u32;
 
-pub const LENGTH: u32 = 4; // of the table, in bytes
+pub const LENGTH: u32 = acpi::LENGTH as u32;
 
-pub const REVISION: u32 = 8; // of the table
+pub const REVISION: u32 = acpi::REVISION as u32;
 
-pub const CHECKSUM: u32 = 9; // with it the table's bytes sum to zero
+pub const CHECKSUM: u32 = acpi::CHECKSUM as u32;
 
-pub const SMI_CMD: u32 = 48; // the port of the firmware's commands
+pub const SMI_CMD: u32 = acpi::SMI_CMD as u32;
 
-pub const ACPI_ENABLE: u32 = 52; // the command that turns ACPI on
+pub const ACPI_ENABLE: u32 = acpi::ACPI_ENABLE as u32;
 
-pub const ACPI_DISABLE: u32 = 53; // the command that turns it off
+pub const ACPI_DISABLE: u32 = acpi::ACPI_DISABLE as u32;
 
-pub const PM1a_EVT_BLK: u32 = 56; // PM1 event block A's first port
+pub const PM1a_EVT_BLK: u32 = acpi::PM1a_EVT_BLK as u32;
 
-pub const PM1b_EVT_BLK: u32 = 60; // PM1 event block B's
+pub const PM1b_EVT_BLK: u32 = acpi::PM1b_EVT_BLK as u32;
 
-pub const PM1a_CNT_BLK: u32 = 64; // PM1 control block A's
+pub const PM1a_CNT_BLK: u32 = acpi::PM1a_CNT_BLK as u32;
 
-pub const PM1b_CNT_BLK: u32 = 68; // PM1 control block B's
+pub const PM1b_CNT_BLK: u32 = acpi::PM1b_CNT_BLK as u32;
 
-pub const PM2_CNT_BLK: u32 = 72; // the PM2 control block's
+pub const PM2_CNT_BLK: u32 = acpi::PM2_CNT_BLK as u32;
 
-pub const PM_TMR_BLK: u32 = 76; // the timer's
+pub const PM_TMR_BLK: u32 = acpi::PM_TMR_BLK as u32;
 
-pub const GPE0_BLK: u32 = 80; // general-purpose event block 0's
+pub const GPE0_BLK: u32 = acpi::GPE0_BLK as u32;
 
-pub const GPE1_BLK: u32 = 84; // general-purpose event block 1's
+pub const GPE1_BLK: u32 = acpi::GPE1_BLK as u32;
 
-pub const PM1_EVT_LEN: u32 = 88; // the ports of each PM1 event block
+pub const PM1_EVT_LEN: u32 = acpi::PM1_EVT_LEN as u32;
 
-pub const PM1_CNT_LEN: u32 = 89; // the ports of each PM1 control block
+pub const PM1_CNT_LEN: u32 = acpi::PM1_CNT_LEN as u32;
 
-pub const PM2_CNT_LEN: u32 = 90; // the ports of PM2
+pub const PM2_CNT_LEN: u32 = acpi::PM2_CNT_LEN as u32;
 
-pub const PM_TMR_LEN: u32 = 91; // the ports of the timer
+pub const PM_TMR_LEN: u32 = acpi::PM_TMR_LEN as u32;
 
-pub const GPE0_BLK_LEN: u32 = 92; // the ports of GPE0, status and enable
+pub const GPE0_BLK_LEN: u32 = acpi::GPE0_BLK_LEN as u32;
 
-pub const GPE1_BLK_LEN: u32 = 93; // the ports of GPE1, status and enable
+pub const GPE1_BLK_LEN: u32 = acpi::GPE1_BLK_LEN as u32;
 
-pub const GPE1_BASE: u32 = 94; // the number of GPE1's first event
+pub const GPE1_BASE: u32 = acpi::GPE1_BASE as u32;
 
-pub const FLAGS: u32 = 112; // the fixed features
+pub const FLAGS: u32 = acpi::FLAGS as u32;
 
 // What every platform of the tests has: each field's offset and its value. Every other byte is zero.
 pub const COMMON: [[u32; 2]; 9] = [

@@ -1,7 +1,7 @@
 use Rattle.model.specs.Bus.{allowed}
 use borrow.Author.Needs.{needs}
-use Rattle.ports.proofs.tests.allowed.Statement.{statement}
-use Rattle.ports.proofs.tests.allowed.Tie as tie
+use Rattle.ports.proofs.refusals.allowed.Statement.{statement}
+use Rattle.ports.proofs.refusals.allowed.Tie as tie
 
 pub allowed-spec : {M : Type 1} → statement M
 unfolding allowed

@@ -1,11 +1,11 @@
-use Rattle.model.specs.Bus.{commandLost}
+use Rattle.model.specs.Bus.{isTimer}
 use borrow.Author.Needs.{needs}
-use Rattle.ports.proofs.tests.command_lost.Statement.{statement}
-use Rattle.ports.proofs.tests.command_lost.Tie as tie
+use Rattle.ports.proofs.refusals.is_timer.Statement.{statement}
+use Rattle.ports.proofs.refusals.is_timer.Tie as tie
 
-pub command-lost-spec : {M : Type 1} → statement M
-unfolding commandLost
-command-lost-spec =
+pub is-timer-spec : {M : Type 1} → statement M
+unfolding isTimer
+is-timer-spec =
     tie.close
     (tie.spec
     (λ c. search needs)

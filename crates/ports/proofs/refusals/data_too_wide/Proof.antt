@@ -1,7 +1,7 @@
 use Rattle.model.specs.Bus.{dataTooWide}
 use borrow.Author.Needs.{needs}
-use Rattle.ports.proofs.tests.data_too_wide.Statement.{statement}
-use Rattle.ports.proofs.tests.data_too_wide.Tie as tie
+use Rattle.ports.proofs.refusals.data_too_wide.Statement.{statement}
+use Rattle.ports.proofs.refusals.data_too_wide.Tie as tie
 
 pick64-requires : tie.Need-pick64-requires
 pick64-requires c κs = search needs

@@ -1,7 +1,7 @@
 use mathlib.Core.Path.{refl}
 use Rattle.model.specs.Bus.{wrongWidth}
-use Rattle.ports.proofs.tests.wrong_width.Statement.{statement}
-use Rattle.ports.proofs.tests.wrong_width.Tie as tie
+use Rattle.ports.proofs.refusals.wrong_width.Statement.{statement}
+use Rattle.ports.proofs.refusals.wrong_width.Tie as tie
 
 returns : tie.Need-returns
 unfolding wrongWidth

@@ -1,11 +1,11 @@
-use Rattle.model.specs.Bus.{isTimer}
+use Rattle.model.specs.Bus.{leadsNowhere}
 use borrow.Author.Needs.{needs}
-use Rattle.ports.proofs.tests.is_timer.Statement.{statement}
-use Rattle.ports.proofs.tests.is_timer.Tie as tie
+use Rattle.ports.proofs.refusals.leads_nowhere.Statement.{statement}
+use Rattle.ports.proofs.refusals.leads_nowhere.Tie as tie
 
-pub is-timer-spec : {M : Type 1} → statement M
-unfolding isTimer
-is-timer-spec =
+pub leads-nowhere-spec : {M : Type 1} → statement M
+unfolding leadsNowhere
+leads-nowhere-spec =
     tie.close
     (tie.spec
     (λ c. search needs)

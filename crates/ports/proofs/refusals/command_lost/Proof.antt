@@ -1,11 +1,11 @@
-use Rattle.model.specs.Bus.{leadsNowhere}
+use Rattle.model.specs.Bus.{commandLost}
 use borrow.Author.Needs.{needs}
-use Rattle.ports.proofs.tests.leads_nowhere.Statement.{statement}
-use Rattle.ports.proofs.tests.leads_nowhere.Tie as tie
+use Rattle.ports.proofs.refusals.command_lost.Statement.{statement}
+use Rattle.ports.proofs.refusals.command_lost.Tie as tie
 
-pub leads-nowhere-spec : {M : Type 1} → statement M
-unfolding leadsNowhere
-leads-nowhere-spec =
+pub command-lost-spec : {M : Type 1} → statement M
+unfolding commandLost
+command-lost-spec =
     tie.close
     (tie.spec
     (λ c. search needs)
