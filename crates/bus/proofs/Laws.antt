@@ -55,12 +55,12 @@ fits-word width written e = go (eqb width 1) (eqb width 2) (ltb-true _ _ (not-fa
     go false true h = omega arith
     go false false h = omega arith
 
--- .. so the test of its low 32 bits is the test of it
+-- where data fits its width, the test of its low 32 bits is the test of it
 pub names-none-low : (m : Machine) (r : Register) (width offset written low : ℕ) (t : Bool) → low ≡ written % 2 ^ 32 → dataTooWide width written ≡ false
     → namesNone m r width offset low ≡ t → namesNone m r width offset written ≡ t
 names-none-low m r width offset written low t l d e = rw (l ∙ fits-word width written d) at e
 
--- .. and so an accepted write has no more
+-- an accepted write has no more than 32 bits
 accepted-fits : (m : Machine) (a : Access) (written : ℕ) → accepted (answerTo m (step.Write a written)) ≡ true → written % 2 ^ 32 ≡ written
 unfolding any
 accepted-fits m a written e =

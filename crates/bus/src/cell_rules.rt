@@ -1,4 +1,5 @@
 // What a read gives and a write does: one match on the register kind and the offset chooses the byte's cell rule.
+use acpi::ARB_DIS;
 use bits::pick32;
 use bits::pick64;
 use machine::GPE_BYTES;
@@ -58,7 +59,7 @@ pub(crate) fn read_cells(m: Machine, r: Register, width: u32, offset: u64) -> u3
                 _ => 0,
             }
         }
-        Register::Pm2Cnt => pick32(m.arb_dis, 1, 0),
+        Register::Pm2Cnt => pick32(m.arb_dis, ARB_DIS_SET, 0),
         Register::PmTmr => timer_register(m),
         Register::Gpe(b) => {
             let number = gpe_number(s, b, offset);
@@ -88,7 +89,9 @@ fn latch(mut m: Machine, command: u8) -> Machine
     m
 }
 
-// PM2 bit 0 is ARB_DIS.
+// PM2 with ARB_DIS set.
+const ARB_DIS_SET: u32 = 1 << ARB_DIS;
+
 fn with_arb_dis(mut m: Machine, arb_dis: bool) -> Machine
     ensures { λ r. ⌜ r ≡ withArbDis m «arb_dis» ⌝ }
 {
@@ -144,7 +147,7 @@ pub(crate) fn write_cells(m: Machine, r: Register, width: u32, offset: u64, writ
             1 => control::write_high(m, b, written),
             _ => m,
         },
-        Register::Pm2Cnt => with_arb_dis(m, written % 2 == 1),
+        Register::Pm2Cnt => with_arb_dis(m, written / ARB_DIS_SET % 2 == 1),
         Register::PmTmr => m,
         Register::Gpe(b) => {
             let number = gpe_number(s, b, offset);

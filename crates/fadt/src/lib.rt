@@ -178,7 +178,7 @@ fn sum_all(bytes: &[u8]) -> u8
     total
 }
 
-// .. of the first n, or of all where there are fewer.
+// The sum of the first n, or of all where there are fewer.
 fn sum_of(table: &[u8], n: usize) -> u8
     ensures { λ r. ⌜ r ≡ sum (take n (now (table .entry))) % 256 ⌝ }
 {

@@ -30,7 +30,7 @@ module _ {A : Type 0} (d : A) (f : A → Bool) where
   any-none (x ∷ xs) e zero h = or-left (f x) (any f xs) e
   any-none (x ∷ xs) e (suc i) h = any-none xs (or-right (f x) (any f xs) e) i (le-of-suc-le-suc h)
 
--- .. nor in the rest of the list
+-- where no element passes, none of the rest of the list does
 pub any-drop : {A : Type 0} (f : A → Bool) (xs : List A) (n : ℕ) → any f xs ≡ false → any f (drop n xs) ≡ false
 unfolding any
 any-drop f [] zero e = e

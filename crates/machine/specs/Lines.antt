@@ -7,7 +7,7 @@ use lib.Dec.{eqb}
 use Rattle.machine.specs.declared.Machine.{Machine}
 use Rattle.machine.specs.Status.{hasBit}
 
--- S0
+-- "Awake is S0": document 01's word for the working state
 unfoldable pub awake : Machine → Bool
 awake m = eqb (m .state) 0
 

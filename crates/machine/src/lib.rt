@@ -34,27 +34,28 @@ pub const GPE_BYTES: usize = platform::GPE_LONGEST as usize / 2;
 
 pub struct Machine {
     pub settings: Settings,
-    // the event cells of blocks A and B together; a bit's home says where it is read and written
+    // PM1x_STS and PM1x_EN of blocks A and B together; a bit's home says in which it is read and written
     pub pm1_sts: u16,
     pub pm1_en: u16,
-    // bytes past a block's own are zero
+    // GPE0_STS, GPE0_EN, GPE1_STS and GPE1_EN; bytes past a block's own are zero
     pub gpe0_sts: [u8; GPE_BYTES],
     pub gpe0_en: [u8; GPE_BYTES],
     pub gpe1_sts: [u8; GPE_BYTES],
     pub gpe1_en: [u8; GPE_BYTES],
-    // the PM timer
+    // TMR_VAL, with TMR_VAL_EXT all of its 32 bits
     pub counter: u32,
-    // ticks in S0 with the power button down since the last press, at most 14,318,180
+    // hold, document 01's word: ticks in S0 with the power button down since the last press, at most 14,318,180
     pub hold: u32,
     // the power button is down
     pub button: bool,
     // whether a command waits for the firmware, and its byte; zero where none waits
     pub command_waits: bool,
     pub command: u8,
-    // the release flag
+    // the release flag: GBL_RLS was written, and the firmware has not dropped it
     pub gbl_rls: bool,
     // SLP_EN was written at A, and B is awaited
     pub armed: bool,
+    // SLP_TYPx of PM1a_CNT and of PM1b_CNT
     pub slp_typ_a: u8,
     pub slp_typ_b: u8,
     pub sci_en: bool,

@@ -7,7 +7,7 @@ use cells::Column;
 ghost use mathlib.Core.Path.{_≡_};
 ghost use Rattle.machine.specs.Lines.{awake, anyEnabled, gpeEvent, pm1Event, eventOutput, sciOf, smiOf};
 
-// S0.
+// The working state, S0.
 pub fn awake(m: Machine) -> bool
     ensures { λ r. ⌜ r ≡ awake m ⌝ }
 {

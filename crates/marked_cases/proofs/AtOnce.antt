@@ -66,7 +66,7 @@ unfoldable pub afterAtOnce : Machine → Step → Machine
 unfolding doneAtOnce eventAtOnce ticksAtOnce
 afterAtOnce m s = cond (accepted (answerTo m s)) (doneAtOnce m s) m
 
--- .. is the model's
+-- the machine after a step at once is the model's
 pub after-at-once : (m : Machine) (s : Step) → afterAtOnce m s ≡ after m s
 unfolding afterAtOnce after
 after-at-once m s = ap (λ (x : Machine). cond (accepted (answerTo m s)) x m) (done-at-once m s)

@@ -83,7 +83,7 @@ write port width written = step.Write (record { port = port; width = width }) wr
 abbrev narrow : Machine
 narrow = powerOn (platform false)
 
--- .. and of 32
+-- a machine with a timer of 32 bits
 abbrev wide : Machine
 wide = powerOn (platform true)
 
@@ -127,11 +127,11 @@ rows =
     row (counting wide 8388607) (step.Event (event.Ticks 1) gives 0 ∷ read 0x400 2 gives 0x0000 ∷ []) (left 0x0000 0 8388608 0 0) ∷
     -- "Hold 14,318,179 stays S0": the tick that reaches it
     row (held 14318178) (step.Event (event.Ticks 1) gives 0 ∷ []) (left 0xC731 0 1 14318179 0) ∷
-    -- .. and all the ticks from a press on, which turn the counter's top bit too
+    -- the same by all the ticks from a press on, which turn the counter's top bit too
     row narrow (step.Event event.Press gives 0 ∷ step.Event (event.Ticks 14318179) gives 0 ∷ []) (left 0x0101 0 14318179 14318179 0) ∷
     -- "one more is S5", with PWRBTN cleared
     row (held 14318179) (step.Event (event.Ticks 1) gives 0 ∷ []) (left 0xC631 0 1 14318180 5) ∷
-    -- .. and from a press on
+    -- the same from a press on
     row narrow (step.Event event.Press gives 0 ∷ step.Event (event.Ticks 14318179) gives 0 ∷ step.Event (event.Ticks 1) gives 0 ∷ [])
     (left 0x0001 0 14318180 14318180 5) ∷
     -- "Port 65,536: 23"

@@ -394,7 +394,7 @@ module _ (P : Machine → Type 0) (keeps : Keeps P) where
     write-kept register.SmiCmd r = keeps .commands m (written % 2 ^ 8) (r refl .0) (mod-lt written (pow-pos 8)) p
     write-kept (register.Pm1Evt b) r = event-write-kept b
     write-kept (register.Pm1Cnt b) r = control-kept b r
-    write-kept register.Pm2Cnt r = keeps .arbitrates m (eqb (written % 2) 1) (r refl .0) p
+    write-kept register.Pm2Cnt r = keeps .arbitrates m _ (r refl .0) p
     write-kept register.PmTmr r = p
     write-kept (register.Gpe false) r = keeps .bytes0 m offset written (r refl .1) p
     write-kept (register.Gpe true) r = keeps .bytes1 m offset written (r refl .1) p

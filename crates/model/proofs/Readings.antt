@@ -113,7 +113,7 @@ module _ (m : Machine) (h : m .state ≤ 5) (fitted : m .settings .«power_overr
   pub press-then-14318179-ticks : after (after m press) (ticks 14318179) .state ≡ 0
   press-then-14318179-ticks = press-then-ticks 14318179
 
-  -- .. and one more
+  -- one tick more than these
   pub press-then-one-tick-more : after (after (after m press) (ticks 14318179)) (ticks 1) .state ≡ 5
   press-then-one-tick-more =
       rw (ticks-done (after m press) 14318179, ticks-done (tickedBy 14318179 (after m press)) 1, ← ticks-add 14318179 1 (after m press))

@@ -130,7 +130,7 @@ sleep-press-wakes-exactly m = (λ e. and-left _ _ e, λ e. both _ _ e (go (rtcCo
     go true = refl
     go false = refl
 
--- .. and an alarm exactly if RTC_EN is set, and in S4 flag 7 too
+-- an alarm wakes exactly if RTC_EN is set, and in S4 RTC_S4 too
 pub alarm-wakes-exactly : (m : Machine) → (signalWakes m rtcBit ≡ true) ↔ ((hasBit (m .«pm1_en») rtcBit ≡ true) × RtcWakes (m .settings) (m .state))
 unfolding wakeBits hasBit
 alarm-wakes-exactly m = (

@@ -2,13 +2,12 @@
 use mathlib.Core.Bool.{Bool, true, false, not, cond, _&&_, _||_}
 use Prim.Native.Nat.{ℕ, _/_, _%_, _^_}
 use lib.Dec.{eqb, ltb}
+use Rattle.acpi.specs.Bits.{«ARB_DIS»}
 use Rattle.clock.specs.Clock.{counterBits}
-use Rattle.sleep.specs.Pairs.{stateOf}
 use Rattle.platform.specs.Fitted.{wideTimer}
 use Rattle.machine.specs.declared.Machine.{Machine}
-use Rattle.registers.specs.Registers.{shown, placed, eventRegister, statusAfter, enableAfter, controlIn, hasPm1bCnt, controlShown, coversLow, coversHigh, writtenBit, gpeByte, gpeStsAfter, gpeEnAfter}
-use Rattle.machine.specs.Fields.{withEvent, withGpe, withControl, withCommand, withArbDis}
-use Rattle.machine.specs.Sleep.{completed}
+use Rattle.registers.specs.Registers.{shown, bitWhen, eventRegister, statusAfter, enableAfter, controlShown, gpeByte, gpeStsAfter, gpeEnAfter}
+use Rattle.machine.specs.Fields.{withEvent, withGpe, withCommand, withArbDis}
 use Rattle.model.specs.Control.{controlWritten}
 use Rattle.model.specs.declared.Register.{Register}
 use Rattle.model.specs.declared.Register.the-variants as register
@@ -70,7 +69,7 @@ unfoldable pub readOf : Machine → Register → ℕ → ℕ → ℕ
 readOf m register.SmiCmd width offset = 0
 readOf m (register.Pm1Evt b) width offset = shown width offset (eventRegister m b offset)
 readOf m (register.Pm1Cnt b) width offset = controlShown m b width offset
-readOf m register.Pm2Cnt width offset = cond (m .«arb_dis») 1 0
+readOf m register.Pm2Cnt width offset = bitWhen (m .«arb_dis») «ARB_DIS»
 readOf m register.PmTmr width offset = timerRegister m
 readOf m (register.Gpe b) width offset = gpeByte m b offset
 readOf m register.Nowhere width offset = 0
@@ -88,7 +87,7 @@ writeOf m register.SmiCmd width offset written = withCommand m true (written % 2
 writeOf m (register.Pm1Evt b) width offset written =
     withEvent m (statusAfter m b width offset written) (enableAfter m b width offset written)
 writeOf m (register.Pm1Cnt b) width offset written = controlWritten m b width offset written
-writeOf m register.Pm2Cnt width offset written = withArbDis m (eqb (written % 2) 1)
+writeOf m register.Pm2Cnt width offset written = withArbDis m (eqb (written / 2 ^ «ARB_DIS» % 2) 1)
 writeOf m register.PmTmr width offset written = m
 writeOf m (register.Gpe b) width offset written = gpeWritten m b offset written
 writeOf m register.Nowhere width offset written = m

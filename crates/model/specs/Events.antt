@@ -144,7 +144,7 @@ generalOf m k = cond (inS5 m) m (wokenIf (eventSource (event.General k)) (genera
 abbrev pub clockOf : Machine → Clock
 clockOf m = startOf (m .counter) (m .hold)
 
--- .. and the clock after n ticks
+-- the clock after n ticks
 abbrev pub clockAfter : Machine → ℕ → Clock
 clockAfter m n = clockTicks (wideTimer (m .settings)) (m .button) (m .settings .«power_override») n (clockOf m)
 

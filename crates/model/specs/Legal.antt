@@ -28,15 +28,15 @@ onlyIf a b = not a || b
 unfoldable pub statusLegal : Machine → Bool
 statusLegal m = within (statusCells (m .settings)) (m .«pm1_sts»)
 
--- .. of the PM1 enables
+-- "no unfitted or reserved bit" of the PM1 enables
 unfoldable pub enablesLegal : Machine → Bool
 enablesLegal m = within (enableCells (m .settings)) (m .«pm1_en»)
 
--- .. of general event bytes: as many as the machine has, each a byte, and zero past the block's own
+-- "no unfitted .. bit" of general event bytes: as many as the machine has, each a byte, and zero past the block's own
 unfoldable pub bytesLegal : ℕ → List ℕ → Bool
 bytesLegal own bytes = eqb (length bytes) gpeBytes && not (any (leb 256) bytes) && not (any (ltb 0) (drop own bytes))
 
--- .. of GPE0, or with b of GPE1: status bytes, and as many enable bytes
+-- the bytes of GPE0, or with b of GPE1, are legal: status bytes, and as many enable bytes
 unfoldable pub gpeLegal : Machine → Bool → Bool
 gpeLegal m b = bytesLegal (gpeHalf (m .settings) b) (gpeSts m b) && bytesLegal (gpeHalf (m .settings) b) (gpeEn m b)
 

@@ -107,11 +107,11 @@ ruleChange m step.Drop = unchanged
 abbrev pub ifAccepted : Machine → Step → Change → Change
 ifAccepted m s c = cond (accepted (answerTo m s)) c unchanged
 
--- "An accepted step raises each bit that its rule sets."
+-- "An accepted step raises each bit that its rule sets.": document 01's word; a bit that was set already is raised too
 unfoldable pub raises : Machine → Step → ℕ
 raises m s = ifAccepted m s (ruleChange m s) .raised
 
--- .. and clears each bit that its rule clears
+-- an accepted step clears each bit that its rule clears
 unfoldable pub clears : Machine → Step → ℕ
 clears m s = ifAccepted m s (ruleChange m s) .cleared
 

@@ -38,7 +38,7 @@ pub enum Event {
 
 pub enum Step {
     Read(Access),
-    // .. and the value written
+    // the access, and the value written
     Write(Access, u64),
     Event(Event),
     // the firmware takes the waiting command

@@ -113,7 +113,7 @@ shared-port-overlaps a b port ha hb =
     (λ h. rw (holds-of b (a .address) pb (omega arith) (omega arith)) (or-true (holds a (b .address))))
     (λ h. rw (holds-of a (b .address) pa h (omega arith)) refl))
 
--- .. and where they overlap there is one
+-- where blocks overlap there is a port of both
 pub overlap-shares-port : (a b : Block) → 0 < a .length → 0 < b .length → overlap a b ≡ true → (port : ℕ) × (holds a port ≡ true) × (holds b port ≡ true)
 unfolding overlap
 overlap-shares-port a b la lb e =

@@ -30,7 +30,7 @@ legalSettings s = not (anyOf (legalTests s))
 abbrev pub HasLength : ℕ → Block → Type 0
 HasLength n b = present b ≡ true → b .length ≡ n
 
--- .. as a GPE block: "even and 2 to 16"
+-- a present GPE block's length is "even and 2 to 16"
 abbrev pub HasGpeLength : Block → Type 0
 HasGpeLength b = present b ≡ true → (b .length % 2 ≡ 0) × (2 ≤ b .length) × (b .length ≤ gpeLongest)
 

@@ -8,10 +8,11 @@ ghost use mathlib.Core.Path.{_≡_};
 ghost use Rattle.platform.specs.Fitted.{statusCells, enableCells, wideTimer};
 
 pub struct Settings {
-    // the port where the guest writes commands to the firmware
+    // SMI_CMD: the port where the guest writes commands to the firmware
     pub smi_cmd: u64,
     pub acpi_enable: u8,
     pub acpi_disable: u8,
+    // PM1a_EVT_BLK to GPE1_BLK, with their lengths
     pub pm1a_evt: Block,
     pub pm1b_evt: Block,
     pub pm1a_cnt: Block,
@@ -20,10 +21,10 @@ pub struct Settings {
     pub pm_tmr: Block,
     pub gpe0: Block,
     pub gpe1: Block,
-    // the number of GPE1's first event
+    // GPE1_BASE: the number of GPE1's first event
     pub gpe1_base: u8,
     pub flags: u32,
-    // a bit set: the event, or the control bit, lives in block B
+    // a bit set: the event, or the control bit, has its home in block B
     pub event_homes: u16,
     pub control_homes: u16,
     // whether the power override is fitted

@@ -13,7 +13,7 @@ use Rattle.platform.specs.declared.settings.Settings.{Settings}
 use Rattle.machine.specs.Status.{hasBit}
 use Rattle.machine.specs.declared.Machine.{Machine}
 
--- "one bit set meaning block B": the bits that live in the block
+-- a bit's home, document 01's word, is the block where it is read and written, "one bit set meaning block B": the bits that live in the block
 abbrev pub homesIn : ℕ → Bool → ℕ
 homesIn homes b = cond b homes (2 ^ 16 - 1 - homes)
 
@@ -161,7 +161,7 @@ gpeStsCleared m b offset written = set (gpeSts m b) offset (clearedBy 8 (gpeStsB
 unfoldable pub gpeStsAfter : Machine → Bool → ℕ → ℕ → List ℕ
 gpeStsAfter m b offset written = cond (inGpeStatus (m .settings) b offset) (gpeStsCleared m b offset written) (gpeSts m b)
 
--- .. and an enable byte takes the byte written
+-- "the same rules": an enable byte takes the byte written
 abbrev pub gpeEnTaken : Machine → Bool → ℕ → ℕ → List ℕ
 gpeEnTaken m b offset written = set (gpeEn m b) (offset - gpeHalf (m .settings) b) (written % 2 ^ 8)
 

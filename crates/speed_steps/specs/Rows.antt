@@ -110,7 +110,7 @@ linesAdded r =
       sum = plus (plus (r .sum) (cond (sciOf (r .machine)) 1 0)) (cond (smiOf (r .machine)) 2 0);
     }
 
--- .. at the end of an interrupt round
+-- the lines are added at the end of an interrupt round
 unfoldable pub linesIf : Row → ℕ → Run → Run
 linesIf row.StatusRead k r = r
 linesIf row.WriteBack k r = r

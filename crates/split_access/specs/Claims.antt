@@ -21,7 +21,7 @@ use Rattle.split_access.specs.Gap.{onEvent, before, isButton, isTicking}
 abbrev pub accessAt : Block → ℕ → ℕ → Access
 accessAt b offset width = record { port = b .address + offset; width = width }
 
--- "two bus steps, both reads or both writes, of one width at one offset, first in .. block A, then in the same block of B ..; each may write its own data"
+-- the two halves of a split access, document 01's words: "two bus steps, both reads or both writes, of one width at one offset, first in .. block A, then in the same block of B ..; each may write its own data"
 pub data Halves (a b : Block) : Step → Step → Type 0 where
   reads : (offset width : ℕ) → offset < a .length → Halves a b (step.Read (accessAt a offset width)) (step.Read (accessAt b offset width))
   writes : (offset width first second : ℕ) → offset < a .length

@@ -1,7 +1,9 @@
--- Gap steps: what may come between the halves of a split access, and which of them move before it.
+-- Gap steps: what may come in a gap, document 01's word for what lies between the two halves of a split access, and which of them
+-- move before it.
 use mathlib.Core.Bool.{Bool, false, not, _&&_}
 use Prim.Native.Nat.{ℕ, _^_}
 use lib.Dec.{eqb}
+use Rattle.acpi.specs.Bits.{«TMR_STS», «PWRBTN_STS»}
 use Rattle.platform.specs.declared.settings.Settings.{Settings}
 use Rattle.machine.specs.Status.{hasBit}
 use Rattle.model.specs.Events.{StatusBit, pm1, gpe, eventBit}
@@ -38,7 +40,7 @@ isPm1Bit i (gpe k) = false
 
 -- "a press or release": what goes by bit 8
 abbrev pub isButton : Event → Bool
-isButton e = isPm1Bit 8 (eventBit e)
+isButton e = isPm1Bit «PWRBTN_STS» (eventBit e)
 
 -- how many ticks the event is
 abbrev pub ticksIn : EventKind → ℕ
@@ -52,4 +54,4 @@ ticksIn (kind.ticks n) = n
 
 -- "ticks (n above zero)"
 abbrev pub isTicking : Event → Bool
-isTicking e = isPm1Bit 0 (eventBit e) && not (eqb (ticksIn (eventKind e)) 0)
+isTicking e = isPm1Bit «TMR_STS» (eventBit e) && not (eqb (ticksIn (eventKind e)) 0)

@@ -19,7 +19,7 @@ pub sets-append : (l : List ℕ) (i : ℕ) (xs ys : List ℕ) → sets l i (xs +
 sets-append l i [] ys = rw add-zero
 sets-append l i (x ∷ xs) ys = rw (onward i (length xs)) (sets-append (set l i x) (suc i) xs ys)
 
--- .. where the second one's place is known by an equation
+-- two texts stored, where the second one's place is known by an equation
 pub sets-then : (l : List ℕ) (i j : ℕ) (xs ys : List ℕ) → i + length xs ≡ j → sets l i (xs ++ ys) ≡ sets (sets l i xs) j ys
 sets-then l i j xs ys e = rw (← e) (sets-append l i xs ys)
 
