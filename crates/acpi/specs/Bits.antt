@@ -3,7 +3,7 @@ use Prim.Native.Nat.{ℕ}
 
 -- ---- PM1 status, PM1a_STS and PM1b_STS
 
--- the timer's top bit turned
+-- the timer's top bit changed
 abbrev pub «TMR_STS» : ℕ
 «TMR_STS» = 0
 
@@ -11,7 +11,7 @@ abbrev pub «TMR_STS» : ℕ
 abbrev pub «BM_STS» : ℕ
 «BM_STS» = 4
 
--- the global lock was released
+-- the firmware released the global lock
 abbrev pub «GBL_STS» : ℕ
 «GBL_STS» = 5
 
@@ -31,28 +31,33 @@ abbrev pub «RTC_STS» : ℕ
 abbrev pub «PCIEXP_WAKE_STS» : ℕ
 «PCIEXP_WAKE_STS» = 14
 
--- the machine woke
+-- the machine woke, from S1 to S4
 abbrev pub «WAK_STS» : ℕ
 «WAK_STS» = 15
 
 -- ---- PM1 enable, PM1a_EN and PM1b_EN: each at the bit of its status
 
+-- TMR_STS raises SCI or SMI
 abbrev pub «TMR_EN» : ℕ
 «TMR_EN» = 0
 
+-- GBL_STS raises SCI or SMI
 abbrev pub «GBL_EN» : ℕ
 «GBL_EN» = 5
 
+-- PWRBTN_STS raises SCI or SMI
 abbrev pub «PWRBTN_EN» : ℕ
 «PWRBTN_EN» = 8
 
+-- SLPBTN_STS raises SCI or SMI, and wakes
 abbrev pub «SLPBTN_EN» : ℕ
 «SLPBTN_EN» = 9
 
+-- RTC_STS raises SCI or SMI, and wakes
 abbrev pub «RTC_EN» : ℕ
 «RTC_EN» = 10
 
--- a disable: set, the wake does nothing
+-- a disable: set, PCI Express does not wake; by document 01 its status is not set then either
 abbrev pub «PCIEXP_WAKE_DIS» : ℕ
 «PCIEXP_WAKE_DIS» = 14
 
@@ -62,11 +67,11 @@ abbrev pub «PCIEXP_WAKE_DIS» : ℕ
 abbrev pub «SCI_EN» : ℕ
 «SCI_EN» = 0
 
--- a bus master's request leaves C3
+-- a bus master's request takes a processor out of C3
 abbrev pub «BM_RLD» : ℕ
 «BM_RLD» = 1
 
--- written: the global lock's release is told to the firmware
+-- written: the OS released the global lock, told to the firmware
 abbrev pub «GBL_RLS» : ℕ
 «GBL_RLS» = 2
 
@@ -74,7 +79,7 @@ abbrev pub «GBL_RLS» : ℕ
 abbrev pub «SLP_TYPx» : ℕ
 «SLP_TYPx» = 10
 
--- written: sleep by the type
+-- written: enters the state that SLP_TYPx names; reads zero
 abbrev pub «SLP_EN» : ℕ
 «SLP_EN» = 13
 

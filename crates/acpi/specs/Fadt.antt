@@ -31,47 +31,59 @@ abbrev pub «ACPI_ENABLE» : ℕ
 abbrev pub «ACPI_DISABLE» : ℕ
 «ACPI_DISABLE» = 53
 
--- 4 bytes each: the blocks' addresses
+-- 4 bytes: the block's address
 abbrev pub «PM1a_EVT_BLK» : ℕ
 «PM1a_EVT_BLK» = 56
 
+-- 4 bytes: the block's address
 abbrev pub «PM1b_EVT_BLK» : ℕ
 «PM1b_EVT_BLK» = 60
 
+-- 4 bytes: the block's address
 abbrev pub «PM1a_CNT_BLK» : ℕ
 «PM1a_CNT_BLK» = 64
 
+-- 4 bytes: the block's address
 abbrev pub «PM1b_CNT_BLK» : ℕ
 «PM1b_CNT_BLK» = 68
 
+-- 4 bytes: the block's address
 abbrev pub «PM2_CNT_BLK» : ℕ
 «PM2_CNT_BLK» = 72
 
+-- 4 bytes: the block's address
 abbrev pub «PM_TMR_BLK» : ℕ
 «PM_TMR_BLK» = 76
 
+-- 4 bytes: the block's address
 abbrev pub «GPE0_BLK» : ℕ
 «GPE0_BLK» = 80
 
+-- 4 bytes: the block's address
 abbrev pub «GPE1_BLK» : ℕ
 «GPE1_BLK» = 84
 
--- a byte each: the blocks' lengths, PM1's of A and of B alike
+-- a byte: the length of block A, and of block B
 abbrev pub «PM1_EVT_LEN» : ℕ
 «PM1_EVT_LEN» = 88
 
+-- a byte: the length of block A, and of block B
 abbrev pub «PM1_CNT_LEN» : ℕ
 «PM1_CNT_LEN» = 89
 
+-- a byte: the block's length
 abbrev pub «PM2_CNT_LEN» : ℕ
 «PM2_CNT_LEN» = 90
 
+-- a byte: the block's length
 abbrev pub «PM_TMR_LEN» : ℕ
 «PM_TMR_LEN» = 91
 
+-- a byte: the block's length
 abbrev pub «GPE0_BLK_LEN» : ℕ
 «GPE0_BLK_LEN» = 92
 
+-- a byte: the block's length
 abbrev pub «GPE1_BLK_LEN» : ℕ
 «GPE1_BLK_LEN» = 93
 

@@ -26,7 +26,7 @@ fn gpe_number(s: Settings, b: bool, offset: u64) -> u64
     )
 }
 
-// The counter has 32 bits or 24.
+// PM_TMR: TMR_VAL, and E_TMR_VAL above it, which is zero where the counter has 24 bits.
 fn timer_register(m: Machine) -> u32
     ensures { λ r. ⌜ r ≡ timerRegister m ⌝ }
 {

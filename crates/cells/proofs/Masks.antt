@@ -46,7 +46,7 @@ mask-digit of flags timer (c ∷ cs) i h =
     ap₂ max (row-digit of flags timer c i h (isIn of flags timer c) refl) (mask-digit of flags timer cs i h) ∙
     sym (one-or (isIn of flags timer c && eqb (c .bit) i) (any (λ c. isIn of flags timer c && eqb (c .bit) i) cs))
 
--- "bit outside C731 hex", "enable write FFFF reads 4721", "and 0721 hex": flags with bits 4, 5 and 6 clear and 14 set, with a timer, fit all
+-- "bit outside C731 hex", "Enable write FFFF reads 4721", "and 0721 hex": flags with bits 4, 5 and 6 clear and 14 set, with a timer, fit all
 pub known-bits : (flags : ℕ) (timer : Bool) → maskOf column.Known flags timer cells ≡ 0xC731
 unfolding maskOf bitAt
 known-bits flags timer = refl

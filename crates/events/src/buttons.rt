@@ -71,6 +71,7 @@ pub(crate) fn release(mut m: Machine) -> Machine
     m
 }
 
+// Its enable, SLPBTN_EN or RTC_EN, is set, and it wakes the state.
 fn signal_wakes(m: Machine, bit: u16) -> bool
     ensures { λ r. ⌜ r ≡ signalWakes m bit ⌝ }
 {
@@ -90,7 +91,7 @@ pub(crate) fn signal(m: Machine, i: u8, bit: u16) -> Machine
     }
 }
 
-// In S1 to S4, and not disabled.
+// In S1 to S4, and PCIEXP_WAKE_DIS, its partner in the enables, is clear.
 fn pcie_wakes(m: Machine) -> bool
     ensures { λ r. ⌜ r ≡ pcieWakes m ⌝ }
 {

@@ -1,4 +1,4 @@
-// Buttons, alarm, wake, bus master, global lock, general events and ticks.
+// Buttons, alarm, PCIe wake, bus master, global lock, general events and ticks.
 mod buttons;
 mod general;
 mod timer;

@@ -40,7 +40,7 @@ ghost use Rattle.fadt.specs.Table.{
 };
 ghost use Rattle.fadt.specs.Fields.{dword, blockOf, pm1Block, settingsOf};
 
-const SIGNATURE: [u8; 4] = *b"FACP";
+const FACP: [u8; 4] = *b"FACP";
 
 // Lines 1 to 12 of the table: the first that refuses these bytes or these settings, wherever the settings come from.
 pub fn judge(table: &[u8], s: Settings) -> SetUpAnswer
@@ -52,7 +52,7 @@ pub fn judge(table: &[u8], s: Settings) -> SetUpAnswer
     if no_signature(table) {
         return SetUpAnswer::Refused(SetUpRefusal::NoSignature);
     }
-    if wrong_length(table) {
+    if wrong_table_length(table) {
         return SetUpAnswer::Refused(SetUpRefusal::WrongLength);
     }
     if wrong_sum(table) {
@@ -155,10 +155,10 @@ fn no_signature(table: &[u8]) -> bool
     let b1 = byte(table, 1);
     let b2 = byte(table, 2);
     let b3 = byte(table, 3);
-    !((b0 == SIGNATURE[0]) & ((b1 == SIGNATURE[1]) & ((b2 == SIGNATURE[2]) & (b3 == SIGNATURE[3]))))
+    !((b0 == FACP[0]) & ((b1 == FACP[1]) & ((b2 == FACP[2]) & (b3 == FACP[3]))))
 }
 
-fn wrong_length(table: &[u8]) -> bool
+fn wrong_table_length(table: &[u8]) -> bool
     ensures { λ r. ⌜ r ≡ wrongTableLength (now (table .entry)) ⌝ }
 {
     let n = dword_at(table, LENGTH) as usize;

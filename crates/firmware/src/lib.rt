@@ -33,7 +33,7 @@ fn sci_en_after(m: Machine) -> bool
     }
 }
 
-// ACPI_ENABLE clears all PM1 enable cells if SCI_EN was clear.
+// ACPI_ENABLE clears all PM1 enable cells, PCIEXP_WAKE_DIS too, if SCI_EN was clear.
 fn enables_after(m: Machine) -> u16
     ensures { λ r. ⌜ r ≡ enablesAfter m ⌝ }
 {

@@ -21,7 +21,7 @@ anyEnabled (s ∷ ss) (e ∷ es) = hasBit s e || anyEnabled ss es
 abbrev pub gpeEvent : Machine → Bool
 gpeEvent m = anyEnabled (m .«gpe0_sts») (m .«gpe0_en») || anyEnabled (m .«gpe1_sts») (m .«gpe1_en»)
 
--- "(PM1 status and enable and 0721 hex)"
+-- "(PM1 status and enable and 0721 hex)": the bits of TMR_EN, GBL_EN, PWRBTN_EN, SLPBTN_EN and RTC_EN (`event-enables` of `acpi/proofs/Masks.antt`)
 abbrev pub pm1Event : Machine → Bool
 pm1Event m = hasBit (bitAnd (m .«pm1_sts») (m .«pm1_en»)) 0x0721
 

@@ -19,7 +19,7 @@ use Rattle.machine.specs.Lines.{gpeEvent}
 unfoldable pub isSleeping : ℕ → Bool
 isSleeping state = leb 1 state && leb state 4
 
--- the PM1 bits that wake the state where they are enabled: 8, 9, 10, "bit 10 in S4 only with flag 7"
+-- the PM1 bits that wake the state where PWRBTN_EN, SLPBTN_EN or RTC_EN is set, "bit 10 in S4 only with flag 7"
 unfoldable pub wakeBits : Settings → ℕ → ℕ
 wakeBits s state = cond (not (eqb state 4) || flagOf (s .flags) «RTC_S4») (pwrbtnBit + slpbtnBit + rtcBit) (pwrbtnBit + slpbtnBit)
 

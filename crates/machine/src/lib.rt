@@ -34,7 +34,7 @@ pub const GPE_BYTES: usize = platform::GPE_LONGEST as usize / 2;
 
 pub struct Machine {
     pub settings: Settings,
-    // PM1x_STS and PM1x_EN of blocks A and B together; a bit's home says in which it is read and written
+    // PM1a_STS with PM1b_STS, and PM1a_EN with PM1b_EN; a bit's home says in which block it is read and written
     pub pm1_sts: u16,
     pub pm1_en: u16,
     // GPE0_STS, GPE0_EN, GPE1_STS and GPE1_EN; bytes past a block's own are zero
@@ -42,7 +42,7 @@ pub struct Machine {
     pub gpe0_en: [u8; GPE_BYTES],
     pub gpe1_sts: [u8; GPE_BYTES],
     pub gpe1_en: [u8; GPE_BYTES],
-    // TMR_VAL, with TMR_VAL_EXT all of its 32 bits
+    // TMR_VAL, and with TMR_VAL_EXT E_TMR_VAL above it
     pub counter: u32,
     // hold, document 01's word: ticks in S0 with the power button down since the last press, at most 14,318,180
     pub hold: u32,
@@ -58,6 +58,7 @@ pub struct Machine {
     // SLP_TYPx of PM1a_CNT and of PM1b_CNT
     pub slp_typ_a: u8,
     pub slp_typ_b: u8,
+    // SCI_EN, BM_RLD, and ARB_DIS of PM2_CNT
     pub sci_en: bool,
     pub bm_rld: bool,
     pub arb_dis: bool,
@@ -98,6 +99,7 @@ fn blank(settings: Settings) -> Machine
     }
 }
 
+// Power-on: all zero, but SCI_EN set exactly if SMI_CMD is zero.
 pub fn power_on(settings: Settings) -> Machine
     ensures { λ r. ⌜ r ≡ powerOn settings ⌝ }
 {
@@ -154,7 +156,7 @@ fn machine_for(answer: SetUpAnswer, settings: Settings) -> Machine
     }
 }
 
-// Sets a machine up from a FADT and what the host gives, or says which line of the table refuses it.
+// Sets a machine up from a FADT (table) and what the host gives, or says which of document 01's lines 1 to 12 refuses.
 pub fn set_up(
     table: &[u8],
     event_homes: u16,

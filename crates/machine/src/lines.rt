@@ -38,7 +38,7 @@ pub(crate) fn gpe_event(m: Machine) -> bool
     any_enabled(sts0, en0) | any_enabled(sts1, en1)
 }
 
-// The bits that raise SCI or SMI, 0721 hex: the table's, the same on every platform.
+// The bits that raise SCI or SMI, 0721 hex: those of TMR_EN, GBL_EN, PWRBTN_EN, SLPBTN_EN and RTC_EN, the same on every platform.
 fn event_bits() -> u16
     ensures { λ r. ⌜ r ≡ 0x0721 ⌝ }
 {

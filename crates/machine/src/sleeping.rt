@@ -28,7 +28,7 @@ pub fn is_sleeping(state: u8) -> bool
     (1 <= state) & (state <= 4)
 }
 
-// The PM1 bits that wake the state where they are enabled: RTC in S4 only with RTC_S4.
+// The PM1 bits that wake the state where PWRBTN_EN, SLPBTN_EN or RTC_EN is set: RTC in S4 only with RTC_S4.
 pub fn wake_bits(settings: Settings, state: u8) -> u16
     ensures { λ r. ⌜ r ≡ wakeBits settings state ⌝ }
 {
@@ -80,7 +80,7 @@ impl Machine {
             .wake_if(WakeSource::NotKnown, pending(self, state))
     }
 
-    // A press in S5: cells, BM_RLD, SLP_TYP, PM2, release flag and command zero; the counter is kept.
+    // A press in S5: cells, BM_RLD, SLP_TYP, PM2, release flag and command zero; SCI_EN as at power-on; the counter is kept.
     pub fn restart(mut self) -> Machine
         ensures { λ r. ⌜ r ≡ restarted self ⌝ }
     {

@@ -1,4 +1,4 @@
-// The PM1 status bits, each at its place in the register, and whether one is set.
+// The PM1 event bits, each at its place in the status and in the enable register (PWRBTN: PWRBTN_STS and PWRBTN_EN), and whether one is set.
 use acpi::BM_STS;
 use acpi::GBL_STS;
 use acpi::PCIEXP_WAKE_STS;

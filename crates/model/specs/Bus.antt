@@ -60,7 +60,7 @@ commandLost m register.PmTmr = false
 commandLost m (register.Gpe b) = false
 commandLost m register.Nowhere = false
 
--- the counter, "32 bits if flag 8 is set, else 24"
+-- TMR_VAL and E_TMR_VAL: the counter, "32 bits if flag 8 is set, else 24"
 abbrev pub timerRegister : Machine → ℕ
 timerRegister m = m .counter % 2 ^ counterBits (wideTimer (m .settings))
 

@@ -1,4 +1,5 @@
--- "Sleep": what a write to a PM1 control register does.
+-- What a write to a PM1 control register does: BM_RLD, GBL_RLS, SLP_TYP, and "Sleep".
+-- Throughout, b is true for block B and false for block A.
 use mathlib.Core.Bool.{Bool, true, false, not, cond, _&&_, _||_}
 use Prim.Native.Nat.{ℕ, _/_, _%_, _^_}
 use lib.Dec.{eqb}
@@ -19,7 +20,7 @@ setsSlpEn width offset written = coversHigh width offset && writtenBit offset wr
 abbrev pub writtenTyp : ℕ → ℕ → ℕ
 writtenTyp offset written = placed offset written / 2 ^ «SLP_TYPx» % 8
 
--- "any write covering a control high byte latches that block's SLP_TYP"
+-- "any write covering a control high byte latches that block's SLP_TYP"; b is the block written, the second Bool the block whose SLP_TYP is asked for
 unfoldable pub typAfter : Machine → Bool → Bool → ℕ → ℕ → ℕ → ℕ
 typAfter m b true width offset written = cond (b && coversHigh width offset) (writtenTyp offset written) (m .«slp_typ_b»)
 typAfter m b false width offset written = cond (not b && coversHigh width offset) (writtenTyp offset written) (m .«slp_typ_a»)
@@ -58,7 +59,7 @@ unfoldable pub gblRlsAfter : Machine → Bool → ℕ → ℕ → Bool
 gblRlsAfter m b offset written =
     m .«gbl_rls» || (coversLow offset && (controlIn (m .settings) b «GBL_RLS» && writtenBit offset written «GBL_RLS»))
 
--- the cells after a control write, before any sleep
+-- the cells after a control write, before any sleep; "0 SCI_EN (writes ignored)": it is none of them
 abbrev pub controlled : Machine → Bool → ℕ → ℕ → ℕ → Machine
 controlled m b width offset written =
     withControl m (bmRldAfter m b offset written) (gblRlsAfter m b offset written)

@@ -1,4 +1,4 @@
--- Buttons, alarm, wake, bus master, global lock, general events and ticks.
+-- Buttons, alarm, PCIe wake, bus master, global lock, general events and ticks.
 use mathlib.Core.Bool.{Bool, true, false, not, cond, _&&_}
 use mathlib.Core.List.{List}
 use Prim.Native.Nat.{ℕ, zero, suc, _-_, _/_, _%_, _^_}
@@ -25,7 +25,7 @@ use Rattle.model.specs.declared.Event.the-variants as event
 
 -- ---- status bits
 
--- a status bit: of PM1, by its number, or a general event's, by the event's
+-- a status bit: of PM1, by the bit's number, or of a general event, by the event's number
 pub data StatusBit : Type 0 where
   pm1 : ℕ → StatusBit
   gpe : ℕ → StatusBit
@@ -83,7 +83,7 @@ pressOf m = withButton (raised (cond (inS5 m) (restarted m) (wokenIf (eventSourc
 abbrev pub releaseOf : Machine → Machine
 releaseOf m = withButton m false (m .hold)
 
--- "sleep press, alarm .. if enabled (alarm in S4 only with flag 7)"
+-- "sleep press, alarm .. if enabled (alarm in S4 only with flag 7)": SLPBTN_EN, RTC_EN
 abbrev pub signalWakes : Machine → ℕ → Bool
 signalWakes m bit = hasBit (m .«pm1_en») bit && hasBit (wakeBits (m .settings) (m .state)) bit
 
@@ -91,7 +91,7 @@ signalWakes m bit = hasBit (m .«pm1_en») bit && hasBit (wakeBits (m .settings)
 unfoldable pub signalOf : Machine → StatusBit → Machine
 signalOf m bit = cond (inS5 m) m (wokenIf (sourceOf bit) (signalWakes m (pm1Mask bit)) (raised m (pm1Mask bit)))
 
--- "PCIe wake if its disable is clear"; it "does nothing in S0"
+-- "PCIe wake if its disable is clear" (PCIEXP_WAKE_DIS); it "does nothing in S0"
 abbrev pub pcieWakes : Machine → Bool
 pcieWakes m = isSleeping (m .state) && not (hasBit (m .«pm1_en») (eventMask event.PcieWake))
 
@@ -117,7 +117,7 @@ numberIn s k = cond (inGpe0 s k) k (k - s .«gpe1_base»)
 abbrev pub withBit : List ℕ → ℕ → List ℕ
 withBit xs k = set xs (k / 8) (bitOr (getD xs (k / 8) 0) (2 ^ (k % 8)))
 
--- its enable is set
+-- event k's bit is set in these enable bytes
 abbrev pub isEnabled : List ℕ → ℕ → Bool
 isEnabled xs k = hasBit (getD xs (k / 8) 0) (2 ^ (k % 8))
 

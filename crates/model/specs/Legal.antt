@@ -1,4 +1,4 @@
--- When a machine is legal: W2's list, one test a clause. That setting up gives legal machines and every step keeps them legal
+-- When a machine is legal: the list of request W2, document 02, which the comments quote, one test a clause. That setting up gives legal machines and every step keeps them legal
 -- is `set-up-legal` and `legal-kept` of `proofs/Legal.antt`.
 use mathlib.Core.Bool.{Bool, true, false, not, _&&_, _||_}
 use mathlib.Core.List.{List, [], _∷_}

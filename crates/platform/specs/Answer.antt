@@ -22,7 +22,7 @@ refusalNumber refusal.SameCommands = 10
 refusalNumber refusal.WrongHomes = 11
 refusalNumber refusal.SleepPairs = 12
 
--- "A refusal carries its number from document 01 and value zero"
+-- the demands: "A refusal carries its number from document 01 and value zero"
 abbrev pub refusalValue : SetUpRefusal → ℕ
 refusalValue refusal.TableShort = 0
 refusalValue refusal.NoSignature = 0

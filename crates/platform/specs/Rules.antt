@@ -31,7 +31,7 @@ blocksOf s =
 unfoldable pub hardwareReduced : Settings → Bool
 hardwareReduced s = flagOf (s .flags) «HW_REDUCED_ACPI»
 
--- "House limits": a present block has another length than the one allowed
+-- "PM1_EVT length 4, PM1_CNT 2, PM2_CNT 1, PM_TMR 4, a GPE block even and 2 to 16": a present block has another length than the one allowed
 unfoldable pub wrongBlockLength : ℕ → Block → Bool
 wrongBlockLength n b = present b && not (eqb (b .length) n)
 
@@ -67,7 +67,7 @@ lengthTests s =
 unfoldable pub lengthRefused : Settings → Bool
 lengthRefused s = anyOf (lengthTests s)
 
--- "PM1 event and timer addresses are multiples of 4, PM1 control addresses of 2": an address is no multiple of n
+-- "PM1 event and timer addresses are multiples of 4, PM1 control addresses of 2; the others are free": an address is no multiple of n
 unfoldable pub misaligned : ℕ → Block → Bool
 misaligned n b = not (eqb (b .address % n) 0)
 

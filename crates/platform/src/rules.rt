@@ -4,7 +4,10 @@ use crate::block::is_present;
 use crate::block::overlaps;
 use crate::block::passes_ports;
 use crate::settings::Settings;
+use acpi::BM_RLD;
+use acpi::GBL_RLS;
 use acpi::HW_REDUCED_ACPI;
+use acpi::SCI_EN;
 use cells::Column;
 ghost use mathlib.Core.Bool.{_||_};
 ghost use mathlib.Core.Path.{_≡_};
@@ -170,7 +173,7 @@ fn hardware_reduced(s: Settings) -> bool
     cells::flag(s.flags, HW_REDUCED_ACPI)
 }
 
-fn wrong_length(n: u8, b: Block) -> bool
+fn wrong_block_length(n: u8, b: Block) -> bool
     ensures { λ r. ⌜ r ≡ wrongBlockLength n b ⌝ }
 {
     is_present(b) & (b.length != n)
@@ -199,12 +202,12 @@ fn length_refused(s: Settings) -> bool
     let tmr = s.pm_tmr;
     let gpe0 = s.gpe0;
     let gpe1 = s.gpe1;
-    wrong_length(4, evt_a)
-        | wrong_length(4, evt_b)
-        | wrong_length(2, cnt_a)
-        | wrong_length(2, cnt_b)
-        | wrong_length(1, pm2)
-        | wrong_length(4, tmr)
+    wrong_block_length(4, evt_a)
+        | wrong_block_length(4, evt_b)
+        | wrong_block_length(2, cnt_a)
+        | wrong_block_length(2, cnt_b)
+        | wrong_block_length(1, pm2)
+        | wrong_block_length(4, tmr)
         | wrong_gpe_length(gpe0)
         | wrong_gpe_length(gpe1)
         | just_one_zero(pm2)
@@ -317,6 +320,9 @@ fn homes_without_block(b: Block, homes: u16) -> bool
     !is_present(b) & (homes != 0)
 }
 
+// The control bits that have a home, 0007 hex.
+const HOME_BITS: u16 = (1 << SCI_EN) + (1 << BM_RLD) + (1 << GBL_RLS);
+
 fn homes_refused(s: Settings) -> bool
     ensures { λ r. ⌜ r ≡ homesRefused s ⌝ }
 {
@@ -324,7 +330,7 @@ fn homes_refused(s: Settings) -> bool
     let cnt_b = s.pm1b_cnt;
     let known = cells::mask(Column::Known, 0, false);
     !bits::within16(known, s.event_homes)
-        | !bits::within16(0x0007, s.control_homes)
+        | !bits::within16(HOME_BITS, s.control_homes)
         | homes_without_block(evt_b, s.event_homes)
         | homes_without_block(cnt_b, s.control_homes)
 }

@@ -1,4 +1,5 @@
 -- The registers that blocks A and B and the GPE blocks show: where each bit lives, what a read shows, and what a write does.
+-- Throughout, b is true for block B, or GPE1, and false for block A, or GPE0.
 use mathlib.Core.Bool.{Bool, not, cond, _&&_, _||_}
 use mathlib.Core.List.{List}
 use Prim.Native.Nat.{ℕ, _*_, _-_, _/_, _%_, _^_}
@@ -13,7 +14,7 @@ use Rattle.platform.specs.declared.settings.Settings.{Settings}
 use Rattle.machine.specs.Status.{hasBit}
 use Rattle.machine.specs.declared.Machine.{Machine}
 
--- a bit's home, document 01's word, is the block where it is read and written, "one bit set meaning block B": the bits that live in the block
+-- the bits whose home is the block. A bit's home, document 01's word, is the block where it is read and written, "one bit set meaning block B"
 abbrev pub homesIn : ℕ → Bool → ℕ
 homesIn homes b = cond b homes (2 ^ 16 - 1 - homes)
 
@@ -30,7 +31,7 @@ enableIn s b = bitAnd (enableCells s) (homesIn (s .«event_homes») b)
 abbrev pub laneAt : ℕ → ℕ
 laneAt offset = offset % 2
 
--- "PM1 one byte, or two bytes at a register's start"
+-- the access is of one byte; one at an odd offset always is, since "two bytes at a register's start" alone are allowed
 abbrev pub oneByte : ℕ → ℕ → Bool
 oneByte width offset = not (eqb (laneAt offset) 0) || eqb width 1
 
@@ -46,7 +47,7 @@ covered width offset = cond (oneByte width offset) (lane (laneAt offset) 255) (2
 abbrev pub placed : ℕ → ℕ → ℕ
 placed offset written = lane (laneAt offset) written
 
--- ---- the PM1 event registers
+-- ---- the PM1 event registers: PM1a_STS and PM1a_EN, PM1b_STS and PM1b_EN
 
 -- "The status half comes first, the enable half second.": two bytes each
 unfoldable pub inStatus : ℕ → Bool
@@ -90,7 +91,7 @@ enableTaken m b width offset written =
 unfoldable pub enableAfter : Machine → Bool → ℕ → ℕ → ℕ → ℕ
 enableAfter m b width offset written = cond (inEnable offset) (enableTaken m b width offset written) (m .«pm1_en»)
 
--- ---- the PM1 control registers
+-- ---- the PM1 control registers: PM1a_CNT, PM1b_CNT
 
 -- a control bit, SCI_EN, BM_RLD or GBL_RLS, lives in the block
 unfoldable pub controlIn : Settings → Bool → ℕ → Bool
@@ -128,7 +129,7 @@ coversHigh width offset = eqb offset 1 || (eqb offset 0 && eqb width 2)
 unfoldable pub writtenBit : ℕ → ℕ → ℕ → Bool
 writtenBit offset written n = eqb (placed offset written / 2 ^ n % 2) 1
 
--- ---- the general event bytes
+-- ---- the general event bytes: GPE0_STS, GPE0_EN, GPE1_STS, GPE1_EN
 
 -- "GPE: status bytes, then as many enable bytes"
 abbrev pub gpeHalf : Settings → Bool → ℕ

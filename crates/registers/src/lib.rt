@@ -1,4 +1,5 @@
-// The cells: where each lives, how a read shows them and what a write does to them.
+// The registers: where each bit lives, what a read shows, and what a write does.
+// Throughout, b is true for block B, or GPE1, and false for block A, or GPE0.
 use acpi::BM_RLD;
 use acpi::SCI_EN;
 use acpi::SLP_TYPx;
@@ -70,7 +71,7 @@ fn high_in(written: u32, mask: u16) -> u16
     (((written as u64) * 256) & (mask as u64)) as u16
 }
 
-// What the block's status half, and its enable half, show.
+// What the block's status half (PM1a_STS, PM1b_STS) and its enable half (PM1a_EN, PM1b_EN) show.
 pub fn status_register(m: Machine, b: bool) -> u16
     ensures { λ r. ⌜ r ≡ statusRegister m b ⌝ }
 {
@@ -166,7 +167,7 @@ const BM_RLD_SET: u32 = 1 << BM_RLD;
 
 const SLP_TYP_UNIT: u32 = 1 << SLP_TYPx;
 
-// SCI_EN and BM_RLD in their homes, SLP_TYP in both; GBL_RLS and SLP_EN read zero.
+// PM1a_CNT, or PM1b_CNT: SCI_EN and BM_RLD in their homes, SLP_TYP in both; GBL_RLS and SLP_EN read zero.
 pub fn control_register(m: Machine, b: bool) -> u32
     ensures { λ r. ⌜ r ≡ controlRegister m b ⌝ }
 {

@@ -30,7 +30,8 @@ original (one x ∷ l) = x ∷ original l
 original (control h gap h′ ∷ l) = h ∷ (gap ++ (h′ ∷ original l))
 original (event h gap h′ ∷ l) = h ∷ (gap ++ (h′ ∷ original l))
 
--- "In the moved list the halves stand side by side": a control access's gap just before; an event access's home B steps just before, any other just after
+-- "In the moved list the halves stand side by side. Around a control access all gap steps come just before. Around an event access a step
+-- whose bit has home B comes just before, any other just after"
 unfoldable pub moved : {Y : Type 0} → (Y → Bool) → List (Item Y) → List Y
 moved homeB [] = []
 moved homeB (one x ∷ l) = x ∷ moved homeB l
@@ -52,7 +53,7 @@ unfoldable pub Every : {Y : Type 0} → (Y → Type 0) → List Y → Type 0
 Every P [] = Unit {0}
 Every P (x ∷ l) = P x × Every P l
 
--- "Every step gives the same number and value .. and both end in the same machine": from s each step gives the answer paired with it, and the end is t
+-- "Every step gives the same number and value in both lists, and both end in the same machine, every part of it": from s each step gives the answer paired with it, and the end is t
 unfoldable pub Run : {S X A : Type 0} → (S → X → A) → (S → X → S) → S → List (X × A) → S → Type 0
 Run ans next s [] t = s ≡ t
 Run ans next s (x ∷ l) t = (ans s (stepIn x) ≡ x .1) × Run ans next (next s (stepIn x)) l t

@@ -1,4 +1,4 @@
--- The fields of a line.
+-- The fields of a line. Quotations are from docs/SCRIPT.md.
 use mathlib.Core.Bool.{Bool, _&&_}
 use mathlib.Core.List.{List, []}
 use Prim.Native.Nat.{ℕ}

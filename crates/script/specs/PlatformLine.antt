@@ -1,4 +1,4 @@
--- The platform line: "platform EVENT_HOMES CONTROL_HOMES OVERRIDE S0 S1 S2 S3 S4 S5".
+-- The platform line: "platform EVENT_HOMES CONTROL_HOMES OVERRIDE S0 S1 S2 S3 S4 S5". Quotations are from docs/SCRIPT.md.
 use mathlib.Core.Bool.{Bool, cond, _&&_, _||_}
 use mathlib.Core.List.{List, [], _∷_}
 use Prim.Native.Nat.{ℕ, _^_}

@@ -1,4 +1,4 @@
--- A line as a step.
+-- A line as a step. Quotations are from docs/SCRIPT.md.
 use mathlib.Core.Bool.{Bool, cond, _&&_}
 use mathlib.Core.List.{List}
 use Prim.Native.Nat.{ℕ, _^_}

@@ -134,7 +134,7 @@ moves-from m legal items end on awake run =
     (awake-ok (m .settings) (stepsOf items) m refl awake)
     run
 
--- "from a machine as setting up gives it"
+-- "The list starts at a machine as setting up gives it"
 pub demand-3 : Demand3 setUpOf stepOf
 demand-3 t event-homes control-homes power-override pairs e =
     moves-from (setUpOf t event-homes control-homes power-override pairs .machine)

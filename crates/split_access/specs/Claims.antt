@@ -65,7 +65,7 @@ MovesFrom stepped m = MovesBy ItemOn before stepped m
 
 -- "Demand 3 is one claim about a whole list": from every machine as setting up gives it
 abbrev pub Demand3By : (Settings → Item Step → Type 0) → (Settings → Step → Bool) → SettingUp → Stepping → Type 0
-Demand3By On first settled stepped = FromSetUp settled (MovesBy On first stepped)
+Demand3By On first setting stepped = FromSetUp setting (MovesBy On first stepped)
 
 abbrev pub Demand3 : SettingUp → Stepping → Type 0
-Demand3 settled stepped = Demand3By ItemOn before settled stepped
+Demand3 setting stepped = Demand3By ItemOn before setting stepped

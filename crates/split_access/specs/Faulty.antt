@@ -1,5 +1,5 @@
 -- Three steps that were paid for and failed, demand 3 changed in two ways, and the write-back without its exemption.
--- That each is wrong is shown in `proofs/Refuted.antt`.
+-- That each is wrong is shown in `proofs/Refuted.antt`. The numbered quotations are the customer's demands'.
 use mathlib.Core.Bool.{Bool, true, false, not, cond, _&&_}
 use Prim.Native.Nat.{ℕ}
 use lib.Bits.{bitAnd}
@@ -40,15 +40,15 @@ abbrev pub atStatus : Machine → Access → Bool
 atStatus m a = isEventRegister (registerOf m a) && inStatus (offsetOf m a)
 
 -- a step that answers as the machine does, and does the same but for what an accepted write does
-abbrev pub doneBy : (Machine → Access → ℕ → Machine) → Machine → Step → Machine
-doneBy write m (step.Read a) = after m (step.Read a)
-doneBy write m (step.Write a written) = cond (accepted (answerTo m (step.Write a written))) (write m a written) m
-doneBy write m (step.Event e) = after m (step.Event e)
-doneBy write m step.Take = after m step.Take
-doneBy write m step.Drop = after m step.Drop
+abbrev pub doneWriting : (Machine → Access → ℕ → Machine) → Machine → Step → Machine
+doneWriting write m (step.Read a) = after m (step.Read a)
+doneWriting write m (step.Write a written) = cond (accepted (answerTo m (step.Write a written))) (write m a written) m
+doneWriting write m (step.Event e) = after m (step.Event e)
+doneWriting write m step.Take = after m step.Take
+doneWriting write m step.Drop = after m step.Drop
 
 abbrev pub writingBy : (Machine → Access → ℕ → Machine) → Stepping
-writingBy write m x = record { answer = answerTo m x; machine = doneBy write m x }
+writingBy write m x = record { answer = answerTo m x; machine = doneWriting write m x }
 
 -- 1: "It cleared the whole status register when the guest wrote to it."
 abbrev pub wiped : Machine → Access → ℕ → Machine

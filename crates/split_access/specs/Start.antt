@@ -22,17 +22,17 @@ Stepping = Machine → Step → Stepped
 abbrev pub nextBy : Stepping → Machine → Step → Machine
 nextBy stepped m x = stepped m x .machine
 
--- "Awake is S0."
+-- "Awake is S0.": where the test `awake` holds
 abbrev pub InS0 : Machine → Type 0
 InS0 m = m .state ≡ 0
 
 -- "The list starts at a machine as setting up gives it": P of every machine of an accepted set-up
 abbrev pub FromSetUp : SettingUp → (Machine → Type 0) → Type 0
-FromSetUp settled P =
+FromSetUp setting P =
     (t : List ℕ) (event-homes control-homes : ℕ) (power-override : Bool) (pairs : List (List ℕ))
-    → settled t event-homes control-homes power-override pairs .answer ≡ set-up.Done
-    → P (settled t event-homes control-homes power-override pairs .machine)
+    → setting t event-homes control-homes power-override pairs .answer ≡ set-up.Done
+    → P (setting t event-homes control-homes power-override pairs .machine)
 
 -- "after any steps from setting up": P of every machine that such steps lead to
 abbrev pub AfterSteps : SettingUp → Stepping → (Machine → Type 0) → Type 0
-AfterSteps settled stepped P = FromSetUp settled (λ m. (steps : List Step) → P (after (nextBy stepped) m steps))
+AfterSteps setting stepped P = FromSetUp setting (λ m. (steps : List Step) → P (after (nextBy stepped) m steps))

@@ -16,4 +16,4 @@ WakesAtOnceFrom stepped m =
 
 -- whatever steps came before
 abbrev pub WakesAtOnce : SettingUp → Stepping → Type 0
-WakesAtOnce settled stepped = AfterSteps settled stepped (WakesAtOnceFrom stepped)
+WakesAtOnce setting stepped = AfterSteps setting stepped (WakesAtOnceFrom stepped)

@@ -100,8 +100,8 @@ WritesBackFrom stepped m = WritesBackBy Unshown stepped m
 
 -- "after any steps from setting up", with these PM1 bits owed
 abbrev pub WriteBackBy : (Stepping → Machine → Round → ℕ → Type 0) → SettingUp → Stepping → Type 0
-WriteBackBy Owed settled stepped = AfterSteps settled stepped (WritesBackBy Owed stepped)
+WriteBackBy Owed setting stepped = AfterSteps setting stepped (WritesBackBy Owed stepped)
 
 -- the write-back: owed is each bit that the value read from its home does not show
 abbrev pub WriteBack : SettingUp → Stepping → Type 0
-WriteBack settled stepped = WriteBackBy Unshown settled stepped
+WriteBack setting stepped = WriteBackBy Unshown setting stepped
