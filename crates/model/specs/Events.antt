@@ -58,9 +58,9 @@ eventMask e = pm1Mask (eventBit e)
 abbrev pub eventSource : Event → WakeSource
 eventSource e = sourceOf (eventBit e)
 
--- the bit is fitted
+-- the bit, as a mask, is fitted
 abbrev pub fits : Settings → ℕ → Bool
-fits s bit = hasBit (statusCells s) bit
+fits s mask = hasBit (statusCells s) mask
 
 -- what the event belongs to is fitted
 abbrev pub fitted : Settings → Event → Bool
@@ -85,7 +85,7 @@ releaseOf m = withButton m false (m .hold)
 
 -- "sleep press, alarm .. if enabled (alarm in S4 only with flag 7)": SLPBTN_EN, RTC_EN
 abbrev pub signalWakes : Machine → ℕ → Bool
-signalWakes m bit = hasBit (m .«pm1_en») bit && hasBit (wakeBits (m .settings) (m .state)) bit
+signalWakes m mask = hasBit (m .«pm1_en») mask && hasBit (wakeBits (m .settings) (m .state)) mask
 
 -- "Sleep press, alarm .. set their bits"; "In S5 .. other accepted events change nothing"
 unfoldable pub signalOf : Machine → StatusBit → Machine

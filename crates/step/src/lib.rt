@@ -10,7 +10,7 @@ ghost use Rattle.model.specs.Step.{stepOf};
 ghost use Rattle.step.specs.Kinds.{readTransfer, writeTransfer, stepKind};
 
 // A step by who does it. Reads and writes are one kind, so that the bus has one caller.
-pub enum StepKind {
+enum StepKind {
     Bus(Transfer),
     Event(Event),
     Take,
