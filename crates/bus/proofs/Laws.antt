@@ -15,7 +15,7 @@ use Rattle.machine.specs.declared.Machine.{Machine}
 use Rattle.machine.specs.Fields.{withGpe}
 use Rattle.model.specs.Answer.{firstApplying}
 use Rattle.model.specs.Bus.{dataTooWide, gpeWritten, readOf, writeOf}
-use Rattle.model.specs.Control.{setsSlpEn, typAfter, completes, armedAfter, namesNone, bmRldAfter, gblRlsAfter}
+use Rattle.model.specs.Control.{controlWritten, setsSlpEn, typAfter, completes, armedAfter, namesNone, bmRldAfter, gblRlsAfter}
 use Rattle.model.specs.Step.{registerOf, offsetOf, writeRefusals, answerTo, accepted, stepOf}
 use Rattle.model.specs.declared.Access.{Access}
 use Rattle.model.specs.declared.Answer.{Answer}
@@ -26,6 +26,7 @@ use Rattle.model.specs.declared.Step.the-variants as step
 use Rattle.model.specs.declared.Stepped.{Stepped}
 use Rattle.model.proofs.Steps.{zero-exactly, accepted-does, refused-stays}
 use Rattle.bus.specs.GpeBytes.{gpeNumber}
+use Rattle.bus.specs.declared.cell_rules.Bytes.{Bytes}
 
 -- a GPE cell below 256 is a status byte, and one from 256 on an enable byte
 module _ (s : Settings) (b : Bool) (offset cell : ℕ) where
@@ -165,3 +166,23 @@ module _ (m : Machine) (r : Register) (b : Bool) (width offset : ℕ) where
         let low : eqb offset 0 ≡ false = ne-eqb offset 0 (λ e. omega arith) in
         let high : eqb offset 1 ≡ false = ne-eqb offset 1 (λ e. omega arith) in
         simp (e, low, high, and-false, or-false)
+
+-- ---- the bytes of a control register that a write covers
+
+module _ (m : Machine) (r : Register) (b : Bool) (width offset written : ℕ) (next : Machine) (bytes : Bytes)
+    (e : r ≡ register.Pm1Cnt b) (n : next ≡ controlWritten m b (bytes .width) (bytes .offset) written) where
+  pub control-first : offset ≡ 0 → bytes ≡ record { width = width; offset = 0 } → next ≡ writeOf m r width offset written
+  unfolding writeOf
+  control-first o s = n ∙ simp (s, e, o)
+
+  pub control-second : offset ≡ 1 → bytes ≡ record { width = 1; offset = 1 } → next ≡ writeOf m r width offset written
+  unfolding writeOf completes setsSlpEn typAfter armedAfter coversHigh
+  control-second o s = n ∙ simp (s, e, o)
+
+  pub control-none : 2 ≤ offset → bytes ≡ record { width = 1; offset = 2 } → next ≡ writeOf m r width offset written
+  unfolding writeOf
+  control-none h s =
+      n
+      ∙ ap (λ (x : Bytes). controlWritten m b (x .width) (x .offset) written) s
+      ∙ sym (control-write-past m (register.Pm1Cnt b) b 1 2 written refl (omega arith))
+      ∙ control-write-past m r b width offset written e h

@@ -123,6 +123,12 @@ fn with_gpe_en(mut m: Machine, b: bool, en: [u8; GPE_BYTES]) -> Machine
     }
 }
 
+// The bytes of a control register that a write covers: at offset 0 the first, or with two bytes both; at 1 the second; past it none.
+struct Bytes {
+    width: u32,
+    offset: u64,
+}
+
 pub(crate) fn write_cells(m: Machine, r: Register, width: u32, offset: u64, written: u32) -> Machine
     ensures { λ result. ⌜ result ≡ writeOf m r width offset written ⌝ }
 {
@@ -142,11 +148,20 @@ pub(crate) fn write_cells(m: Machine, r: Register, width: u32, offset: u64, writ
                 _ => m,
             }
         }
-        Register::Pm1Cnt(b) => match offset {
-            0 => control::write_low(m, b, width, written),
-            1 => control::write_high(m, b, written),
-            _ => m,
-        },
+        Register::Pm1Cnt(b) => {
+            let bytes = match offset {
+                0 => Bytes { width, offset: 0 },
+                1 => Bytes {
+                    width: 1,
+                    offset: 1,
+                },
+                _ => Bytes {
+                    width: 1,
+                    offset: 2,
+                },
+            };
+            control::write(m, b, bytes.width, bytes.offset, written)
+        }
         Register::Pm2Cnt => with_arb_dis(m, written / ARB_DIS_SET % 2 == 1),
         Register::PmTmr => m,
         Register::Gpe(b) => {

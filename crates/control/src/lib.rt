@@ -125,8 +125,8 @@ fn controlled(mut m: Machine, b: bool, width: u32, offset: u64, written: u32) ->
     m
 }
 
-// What a write of the register does, with the sleep that it completes.
-fn write_control(m: Machine, b: bool, width: u32, offset: u64, written: u32) -> Machine
+// What a write does, with the sleep that it completes.
+pub fn write(m: Machine, b: bool, width: u32, offset: u64, written: u32) -> Machine
     ensures { λ r. ⌜ r ≡ controlWritten m b width offset written ⌝ }
 {
     let next = controlled(m, b, width, offset, written);
@@ -135,18 +135,4 @@ fn write_control(m: Machine, b: bool, width: u32, offset: u64, written: u32) -> 
     } else {
         next
     }
-}
-
-// A write at the register's first byte: that byte, or with two bytes the register.
-pub fn write_low(m: Machine, b: bool, width: u32, written: u32) -> Machine
-    ensures { λ r. ⌜ r ≡ controlWritten m b width 0 written ⌝ }
-{
-    write_control(m, b, width, 0, written)
-}
-
-// A write at its second byte.
-pub fn write_high(m: Machine, b: bool, written: u32) -> Machine
-    ensures { λ r. ⌜ r ≡ controlWritten m b 1 1 written ⌝ }
-{
-    write_control(m, b, 1, 1, written)
 }

@@ -7,6 +7,7 @@ use Rattle.lists.specs.Any.{firstAt}
 use Rattle.platform.specs.Blocks.{holds}
 use Rattle.platform.specs.Legal.{blockAt}
 use Rattle.platform.specs.Rules.{blocksOf}
+use Rattle.platform.specs.declared.block.Block.{Block}
 use Rattle.platform.specs.declared.settings.Settings.{Settings}
 use Rattle.model.specs.declared.Place.{Place}
 use Rattle.model.specs.declared.Register.{Register}
@@ -30,9 +31,13 @@ registers =
 abbrev pub placeAt : Settings → ℕ → ℕ
 placeAt s port = firstAt (λ b. holds b port) (blocksOf s)
 
+-- the register, and how far the port lies past its block's first
+abbrev pub placed : Register → Block → ℕ → Place
+placed register b port = record { register = register; offset = port - b .address }
+
 -- one walk over the blocks: the register that the port leads to, and the port's offset in its block
 abbrev pub walk : Settings → ℕ → Place
-walk s port = record { register = getD registers (placeAt s port) register.Nowhere; offset = port - blockAt s (placeAt s port) .address }
+walk s port = placed (getD registers (placeAt s port) register.Nowhere) (blockAt s (placeAt s port)) port
 
 unfoldable pub registerAt : Settings → ℕ → Register
 registerAt s port = walk s port .register

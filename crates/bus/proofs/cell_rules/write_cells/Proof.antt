@@ -1,9 +1,9 @@
+use mathlib.Core.Logic.{⊎-elim}
 -- `bus::cell_rules::write_cells` meets its contract: each arm is the rule of its byte, and past a register's bytes a write does nothing. Assumes nothing.
 use Rattle.model.specs.Bus.{writeOf}
 use borrow.Author.Needs.{needs}
-use Rattle.model.specs.Control.{setsSlpEn, typAfter, completes, armedAfter}
-use Rattle.registers.specs.Registers.{coversHigh, inStatus, inEnable, statusAfter, enableAfter}
-use Rattle.bus.proofs.Laws.{cell-in-status, cell-past-status, status-byte-written, enable-byte-written, past-four, past-two, event-write-past, control-write-past}
+use Rattle.registers.specs.Registers.{inStatus, inEnable, statusAfter, enableAfter}
+use Rattle.bus.proofs.Laws.{cell-in-status, cell-past-status, status-byte-written, enable-byte-written, past-four, past-two, event-write-past, control-first, control-second, control-none}
 use Rattle.bus.proofs.cell_rules.write_cells.Statement.{statement}
 use Rattle.bus.proofs.cell_rules.write_cells.Tie as tie
 
@@ -52,11 +52,8 @@ with-event-requires-4 c κs = search needs
 enum-known-r-2 : tie.Need-enum-known-r-2
 enum-known-r-2 c = search needs
 
-write-low-requires : tie.Need-write-low-requires
-write-low-requires c κs = search needs
-
-write-high-requires : tie.Need-write-high-requires
-write-high-requires c κs = search needs
+write-requires : tie.Need-write-requires
+write-requires c κs = search needs
 
 enum-told-2 : tie.Need-enum-told-2
 enum-told-2 c = search needs
@@ -112,35 +109,37 @@ returns-6 : tie.Need-returns-6
 returns-6 c = let q : _ = c .match2 .rest in event-write-past _ _ _ _ _ _ (c .before .before .before .before .r .given .1) (past-four _ (q .0 .0 .0 .1) (q .0 .0 .1) (q .0 .1) (q .1))
 
 returns-7 : tie.Need-returns-7
-unfolding writeOf
-returns-7 c = simp (c .write-low .ensures, c .before .before .before .r2 .given .1, c .before .match3 .keys1)
+returns-7 c =
+    let is : _ = c .before .before .before .r2 .given .1 in
+    let wrote : _ = c .write .ensures in
+    ⊎-elim
+    (λ w. control-first _ _ _ _ _ _ _ _ is wrote (w .0 .keys1) (w .1))
+    (λ v.
+    ⊎-elim
+    (λ w. control-second _ _ _ _ _ _ _ _ is wrote (w .0 .keys2) (w .1))
+    (λ w. let q : _ = w .0 .rest in control-none _ _ _ _ _ _ _ _ is wrote (past-two _ (q .0 .1) (q .1)) (w .1))
+    v)
+    (c .before .match3 .came)
 
 returns-8 : tie.Need-returns-8
-unfolding writeOf completes setsSlpEn typAfter armedAfter coversHigh
-returns-8 c = simp (c .write-high .ensures, c .before .before .before .r2 .given .1, c .before .match3 .keys2)
+unfolding writeOf
+returns-8 c = simp (c .with-arb-dis .ensures, c .before .enum-told2 .given .1)
 
 returns-9 : tie.Need-returns-9
-returns-9 c = let q : _ = c .match3 .rest in control-write-past _ _ _ _ _ _ (c .before .before .r2 .given .1) (past-two _ (q .0 .1) (q .1))
+unfolding writeOf
+returns-9 c = simp (c .enum-told3 .given .1)
 
 returns-10 : tie.Need-returns-10
 unfolding writeOf
-returns-10 c = simp (c .with-arb-dis .ensures, c .before .enum-told2 .given .1)
+returns-10 c = simp (c .with-gpe-sts .ensures, c .before .gpe-sts-cleared .ensures, status-byte-written (c .before .before .before .before .before .before .before .before .args .m) _ _ (c .before .before .before .before .before .before .before .before .args .written) (cell-in-status _ _ _ _ (c .before .before .before .gpe-number .ensures) (c .before .before .if1 .taken)), c .before .before .before .before .before .r3 .given .1)
 
 returns-11 : tie.Need-returns-11
 unfolding writeOf
-returns-11 c = simp (c .enum-told3 .given .1)
+returns-11 c = simp (c .with-gpe-en .ensures, c .before .gpe-en-taken .ensures, enable-byte-written (c .before .before .before .before .before .before .before .before .args .m) _ _ (c .before .before .before .before .before .before .before .before .args .written) (cell-past-status _ _ _ _ (c .before .before .before .gpe-number .ensures) (c .before .before .if1 .left)), c .before .before .before .before .before .r3 .given .1)
 
 returns-12 : tie.Need-returns-12
 unfolding writeOf
-returns-12 c = simp (c .with-gpe-sts .ensures, c .before .gpe-sts-cleared .ensures, status-byte-written (c .before .before .before .before .before .before .before .before .args .m) _ _ (c .before .before .before .before .before .before .before .before .args .written) (cell-in-status _ _ _ _ (c .before .before .before .gpe-number .ensures) (c .before .before .if1 .taken)), c .before .before .before .before .before .r3 .given .1)
-
-returns-13 : tie.Need-returns-13
-unfolding writeOf
-returns-13 c = simp (c .with-gpe-en .ensures, c .before .gpe-en-taken .ensures, enable-byte-written (c .before .before .before .before .before .before .before .before .args .m) _ _ (c .before .before .before .before .before .before .before .before .args .written) (cell-past-status _ _ _ _ (c .before .before .before .gpe-number .ensures) (c .before .before .if1 .left)), c .before .before .before .before .before .r3 .given .1)
-
-returns-14 : tie.Need-returns-14
-unfolding writeOf
-returns-14 c = simp (c .enum-told4 .given .1)
+returns-12 c = simp (c .enum-told4 .given .1)
 
 pub write-cells-spec : {M : Type 1} → statement M
 write-cells-spec =
@@ -161,8 +160,7 @@ write-cells-spec =
     enable-high-requires
     with-event-requires-4
     enum-known-r-2
-    write-low-requires
-    write-high-requires
+    write-requires
     enum-told-2
     with-arb-dis-requires
     enum-told-3
@@ -184,6 +182,4 @@ write-cells-spec =
     returns-9
     returns-10
     returns-11
-    returns-12
-    returns-13
-    returns-14)
+    returns-12)
