@@ -1,11 +1,13 @@
--- The rule of the cell table: bit i of a mask is set exactly if some row that counts has bit i. And the four masks that document 01 names.
+-- The rule of the cell table: bit i of a mask is set exactly if some row that counts has bit i, and a mask has 16 bits. And the four masks that document 01 names.
 -- By digits: or takes the larger digit, and a row's bit has the one digit. Assumes nothing.
 use Prim.Native.Nat.{ℕ, _<_, _+_, _^_, max}
-use mathlib.Core.Bool.{Bool, true, false, _&&_, _||_}
+use mathlib.Core.Bool.{Bool, true, false, cond, _&&_, _||_}
 use mathlib.Core.Path.{_≡_, refl, sym, _∙_, ap₂}
 use mathlib.Core.List.{List, [], _∷_}
-use borrow.Author.Tests.{eqb-true, eqb-false, lt-ltb}
-use lib.Dec.{eqb, ltb}
+use borrow.Author.Tests.{eqb-true, eqb-false, ltb-true, lt-ltb}
+use lib.Bits.{or-lt}
+use lib.Dec.{eqb, ltb, lit<}
+use lib.Pow.{pow-lt}
 use Rattle.lists.specs.Any.{any}
 use Rattle.bits.specs.Digit.{digit}
 use Rattle.bits.proofs.Digits.{digit-or, digit-zero, digit-own-bit, digit-other-bit}
@@ -45,6 +47,27 @@ mask-digit of flags timer (c ∷ cs) i h =
     digit-or i (cellBit of flags timer c) (maskOf of flags timer cs) ∙
     ap₂ max (row-digit of flags timer c i h (isIn of flags timer c) refl) (mask-digit of flags timer cs i h) ∙
     sym (one-or (isIn of flags timer c && eqb (c .bit) i) (any (λ c. isIn of flags timer c && eqb (c .bit) i) cs))
+
+-- a mask computed from the table has 16 bits
+bit-small : (n : ℕ) → bitAt n < 2 ^ 16
+unfolding bitAt
+bit-small n = go (ltb n 16) refl
+  where
+    go : (t : Bool) → ltb n 16 ≡ t → cond t (2 ^ n) 0 < 2 ^ 16
+    go true e = pow-lt (ltb-true n 16 e)
+    go false e = lit< tt
+
+cell-small : (of : Column) (flags : ℕ) (timer : Bool) (c : Cell) → cellBit of flags timer c < 2 ^ 16
+cell-small of flags timer c = go (isIn of flags timer c)
+  where
+    go : (t : Bool) → cond t (bitAt (c .bit)) 0 < 2 ^ 16
+    go true = bit-small (c .bit)
+    go false = lit< tt
+
+pub mask-small : (of : Column) (flags : ℕ) (timer : Bool) (cs : List Cell) → maskOf of flags timer cs < 2 ^ 16
+unfolding maskOf
+mask-small of flags timer [] = lit< tt
+mask-small of flags timer (c ∷ cs) = or-lt 16 (cellBit of flags timer c) (maskOf of flags timer cs) (cell-small of flags timer c) (mask-small of flags timer cs)
 
 -- "bit outside C731 hex", "Enable write FFFF reads 4721", "and 0721 hex": flags with bits 4, 5 and 6 clear and 14 set, with a timer, fit all
 pub known-bits : (flags : ℕ) (timer : Bool) → maskOf column.Known flags timer cells ≡ 0xC731

@@ -5,7 +5,7 @@ ghost use Rattle.clock.specs.Clock.{counterBits, ticksOf, startOf};
 ghost use Rattle.clock.specs.AtOnce.{offWithin, ranOf, counterAfter, turnsIn, holdAfter};
 
 // 4 seconds at 3,579,545 Hz.
-const HOLD_LIMIT: u64 = 14318180;
+pub const HOLD_LIMIT: u64 = 14318180;
 
 // The timer and the power button's hold as n ticks leave them.
 pub struct Clock {

@@ -3,10 +3,8 @@ use mathlib.Core.Bool.{Bool, cond}
 use mathlib.Core.List.{List, [], _∷_, _++_, append-assoc}
 use mathlib.Core.Path.{_≡_, refl, sym, _∙_, ap}
 use Prim.Native.Nat.{ℕ, _+_, _-_, _^_, _≤_, _<_}
-use native.Mathlib.Nat.{lt-of-lt-of-le}
 use native.Mathlib.Omega.{arith}
 use borrow.Author.Tests.{le-leb, lt-leb}
-use lib.Dec.{lit<, lit≤}
 use lib.ListN.{length, length-append}
 use lib.Seq.{sets}
 use mir.Syntax.{w64}
@@ -14,7 +12,6 @@ use mir.Val.{Fits}
 use Rattle.text.specs.Numbers.{digits, digitCount}
 use Rattle.text.specs.Parts.{tab, lf}
 use Rattle.text.proofs.Digits.{digits-length}
-use Rattle.text.proofs.Fewest.{digits-fewest}
 use Rattle.text.proofs.Stores.{sets-then}
 use Rattle.listing.specs.Entry.{decimal, flag, stateDigit, stateText, tail, fields, entry, entryLength, putAt}
 use Rattle.machine.specs.declared.Machine.{Machine}
@@ -70,10 +67,6 @@ tail-written l at value sci smi state first second third fourth e f g h =
     piece l at (at + 9) (digits 16 8 value) tab _ first fourth e (omega (arith, digits-length 16 8 value))
     (piece first (at + 9) (at + 11) (flag sci) tab _ second fourth f (omega (arith, flag-length sci))
     (piece second (at + 11) (at + 13) (flag smi) tab _ third fourth g (omega (arith, flag-length smi)) h))
-
--- a 64-bit number has at most 20 decimal digits
-pub at-most-20 : (n : ℕ) → n < 2 ^ 64 → digitCount 10 n ≤ 20
-at-most-20 n h = digits-fewest 10 (lit< tt) n 20 (lit≤ tt) (lt-of-lt-of-le h (lit≤ tt))
 
 -- the tail has 16 bytes
 tail-length : (value : ℕ) (sci smi : Bool) (state : ℕ) → length (tail value sci smi state) ≡ 16

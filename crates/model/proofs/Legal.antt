@@ -1,5 +1,5 @@
 -- Setting up gives legal machines, and every step keeps them legal. Each clause is kept by each change that the rules make, and so,
--- by `kept-by-steps`, by every step.
+-- by `kept-by-steps`, by every step. What a table of bytes gives fits its types, and no step changes a setting.
 -- Assumes nothing.
 use mathlib.Core.Bool.{Bool, true, false, not, cond, _&&_, _||_, or-true, false≢true}
 use mathlib.Core.List.{List}
@@ -9,7 +9,9 @@ use native.Mathlib.Nat.{mod-lt}
 use native.Mathlib.Omega.{arith}
 use borrow.Author.Tests.{eqb-false, ne-eqb, ltb-true, lt-ltb, leb-true, leb-false, le-leb, not-true}
 use lib.Dec.{eqb, ltb, leb, lit<, lit≤}
+use lib.ListN.{length}
 use lib.Pow.{pow-pos}
+use Rattle.lists.specs.Any.{any}
 use Rattle.lists.proofs.Tests.{and-left, and-right, and-other}
 use Rattle.clock.specs.AtOnce.{offWithin as overriddenIn, ranOf, counterAfter, holdAfter}
 use Rattle.clock.specs.Clock.{counterBits, holdLimit}
@@ -20,6 +22,7 @@ use Rattle.platform.specs.Rules.{eventCount}
 use Rattle.platform.specs.declared.rules.SetUpAnswer.the-variants as answer
 use Rattle.platform.specs.declared.settings.Settings.{Settings}
 use Rattle.platform.proofs.Legal.{legal-guaranteed}
+use Rattle.fadt.specs.Fields.{byte, settingsOf}
 use Rattle.machine.specs.Status.{wakBit}
 use Rattle.registers.specs.Registers.{hasPm1bCnt}
 use Rattle.machine.specs.Lines.{awake}
@@ -30,10 +33,11 @@ use Rattle.machine.specs.declared.Machine.{Machine}
 use Rattle.machine.proofs.Accepted.{accepted-machine, accepted-legal}
 use Rattle.model.specs.Bus.{gpeWritten}
 use Rattle.model.specs.Events.{inS5, inGpe0, inGpe1, generalRaised}
-use Rattle.model.specs.Legal.{onlyIf, statusLegal, enablesLegal, bytesLegal, gpeLegal, arbDisLegal, stateAllowed, stateLegal, counterLegal, holdLegal, buttonLegal, commandLegal, commandByteLegal, armedLegal, slpTypBLegal, slpTypsLegal, legal}
+use Rattle.model.specs.Legal.{onlyIf, statusLegal, enablesLegal, bytesLegal, gpeLegal, arbDisLegal, stateAllowed, stateLegal, counterLegal, holdLegal, buttonLegal, commandLegal, armedLegal, slpTypBLegal, commandByteLegal, slpTypsLegal, listed, notTwo, settingsFit, fitsTypes, legal}
 use Rattle.model.specs.Step.{after}
 use Rattle.model.specs.declared.Step.{Step}
 use Rattle.model.proofs.Bytes.{Bytes, bytes-mean, mean-bytes, no-bytes, bytes-with-bit, even-length, status-written, enable-written}
+use Rattle.model.proofs.Fits.{set-up-fits}
 use Rattle.model.proofs.Fitted.{zero-within, or-within, part-within, wak-within}
 use Rattle.model.proofs.Kept.{ticked, overriddenBy, KeptRaising, KeptClearing, KeptEnabling, KeptLatching, KeptTaking, KeptControlling, KeptArbitrating, KeptSleeping, KeptWaking, KeptRestarting, KeptPressing, KeptReleasing, KeptTicking, KeptOverriding, Keeps, kept-by-steps}
 use Rattle.model.proofs.LinesExactly.{awake-exactly, both}
@@ -295,28 +299,30 @@ pub record Legal (m : Machine) : Type 0 where
   pub hold : holdLegal m ≡ true
   pub button : buttonLegal m ≡ true
   pub command : commandLegal m ≡ true
-  pub command-byte : commandByteLegal m ≡ true
   pub armed : armedLegal m ≡ true
   pub slp-typ-b : slpTypBLegal m ≡ true
+  pub command-byte : commandByteLegal m ≡ true
   pub slp-typs : slpTypsLegal m ≡ true
+  pub types : fitsTypes m ≡ true
 
 pub legal-means : (m : Machine) → legal m ≡ true → Legal m
-unfolding legal
+unfolding legal listed
 legal-means m e =
-    let (e₁, slp-typs) = parts _ (slpTypsLegal m) e in
-    let (e₂, slp-typ-b) = parts _ (slpTypBLegal m) e₁ in
-    let (e₃, armed) = parts _ (armedLegal m) e₂ in
-    let (e₄, command-byte) = parts _ (commandByteLegal m) e₃ in
-    let (e₅, command) = parts _ (commandLegal m) e₄ in
-    let (e₆, button) = parts _ (buttonLegal m) e₅ in
-    let (e₇, hold) = parts _ (holdLegal m) e₆ in
-    let (e₈, counter) = parts _ (counterLegal m) e₇ in
-    let (e₉, state) = parts _ (stateLegal m) e₈ in
-    let (e₁₀, arb-dis) = parts _ (arbDisLegal m) e₉ in
-    let (e₁₁, gpe1) = parts _ (gpeLegal m true) e₁₀ in
-    let (e₁₂, gpe0) = parts _ (gpeLegal m false) e₁₁ in
-    let (e₁₃, enables) = parts _ (enablesLegal m) e₁₂ in
-    let (settings, status) = parts (legalSettings (m .settings)) (statusLegal m) e₁₃ in
+    let (e₁, types) = parts _ (fitsTypes m) e in
+    let (e₂, slp-typs) = parts _ (slpTypsLegal m) e₁ in
+    let (e₃, command-byte) = parts _ (commandByteLegal m) e₂ in
+    let (e₄, slp-typ-b) = parts _ (slpTypBLegal m) e₃ in
+    let (e₅, armed) = parts _ (armedLegal m) e₄ in
+    let (e₆, command) = parts _ (commandLegal m) e₅ in
+    let (e₇, button) = parts _ (buttonLegal m) e₆ in
+    let (e₈, hold) = parts _ (holdLegal m) e₇ in
+    let (e₉, counter) = parts _ (counterLegal m) e₈ in
+    let (e₁₀, state) = parts _ (stateLegal m) e₉ in
+    let (e₁₁, arb-dis) = parts _ (arbDisLegal m) e₁₀ in
+    let (e₁₂, gpe1) = parts _ (gpeLegal m true) e₁₁ in
+    let (e₁₃, gpe0) = parts _ (gpeLegal m false) e₁₂ in
+    let (e₁₄, enables) = parts _ (enablesLegal m) e₁₃ in
+    let (settings, status) = parts (legalSettings (m .settings)) (statusLegal m) e₁₄ in
     record {
       settings = settings;
       status = status;
@@ -329,14 +335,15 @@ legal-means m e =
       hold = hold;
       button = button;
       command = command;
-      command-byte = command-byte;
       armed = armed;
       slp-typ-b = slp-typ-b;
+      command-byte = command-byte;
       slp-typs = slp-typs;
+      types = types;
     }
 
 pub means-legal : (m : Machine) → Legal m → legal m ≡ true
-unfolding legal
+unfolding legal listed
 means-legal m l =
     rw (
       l .settings,
@@ -350,10 +357,11 @@ means-legal m l =
       l .hold,
       l .button,
       l .command,
-      l .command-byte,
       l .armed,
       l .slp-typ-b,
+      l .command-byte,
       l .slp-typs,
+      l .types,
     )
     refl
 
@@ -396,10 +404,11 @@ clauses-kept m s l =
       hold = held-hold (after m s) (button .1);
       button = button .0;
       command = commands .0;
-      command-byte = commands .1;
       armed = sleep .1;
       slp-typ-b = control .0;
+      command-byte = commands .1;
       slp-typs = control .1;
+      types = rw (settings-kept m s) (l .types);
     }
 
 -- "all that .. any steps then give are legal"
@@ -412,35 +421,54 @@ size-positive : (wide : Bool) → ltb 0 (2 ^ counterBits wide) ≡ true
 size-positive true = refl
 size-positive false = refl
 
-pub power-on-legal : (s : Settings) → legalSettings s ≡ true → legal (powerOn s) ≡ true
-unfolding statusLegal enablesLegal arbDisLegal stateAllowed counterLegal buttonLegal commandLegal commandByteLegal armedLegal slpTypBLegal slpTypsLegal
-power-on-legal s e =
-    let bytes = mean-gpe (powerOn s) (legal-guaranteed s e, no-bytes _, no-bytes _, no-bytes _, no-bytes _) in
-    means-legal (powerOn s)
-    (record {
-      settings = e;
-      status = zero-within (statusCells s);
-      enables = zero-within (enableCells s);
-      gpe0 = bytes .0;
-      gpe1 = bytes .1;
-      arb-dis = refl;
-      state = refl;
-      counter = size-positive (wideTimer s);
-      hold = held-hold (powerOn s) (lit≤ tt, λ o n. lit< tt);
-      button = refl;
-      command = only-of (eqb (s .«smi_cmd») 0) _ (λ z. z);
-      command-byte = refl;
-      armed = refl;
-      slp-typ-b = or-true (not (not (hasPm1bCnt s)));
-      slp-typs = refl;
-    })
+-- the list's clauses at power-on, where they are not plain zeros
+module _ (s : Settings) where
+  status-off : statusLegal (powerOn s) ≡ true
+  unfolding statusLegal
+  status-off = zero-within (statusCells s)
 
-from-power-on : (m : Machine) (s : Settings) → m ≡ powerOn s → legalSettings (m .settings) ≡ true → legal m ≡ true
-from-power-on m s q l = rw q (power-on-legal s (rw q at l))
+  enables-off : enablesLegal (powerOn s) ≡ true
+  unfolding enablesLegal
+  enables-off = zero-within (enableCells s)
 
--- "all that accepted setting up .. give are legal"
-pub set-up-legal : (t : List ℕ) (event-homes control-homes : ℕ) (power-override : Bool) (pairs : List (List ℕ))
-    → setUpOf t event-homes control-homes power-override pairs .answer ≡ answer.Done
-    → legal (setUpOf t event-homes control-homes power-override pairs .machine) ≡ true
-set-up-legal t event-homes control-homes power-override pairs e =
-    from-power-on _ _ (accepted-machine t _ e) (accepted-legal t event-homes control-homes power-override pairs e)
+  counter-zero : counterLegal (powerOn s) ≡ true
+  unfolding counterLegal
+  counter-zero = size-positive (wideTimer s)
+
+  command-none : commandLegal (powerOn s) ≡ true
+  unfolding commandLegal
+  command-none = only-of (eqb (s .«smi_cmd») 0) _ (λ z. z)
+
+  slp-typ-b-zero : slpTypBLegal (powerOn s) ≡ true
+  unfolding slpTypBLegal
+  slp-typ-b-zero = or-true (not (not (hasPm1bCnt s)))
+
+  pub power-on-listed : legalSettings s ≡ true → listed (powerOn s) ≡ true
+  unfolding listed arbDisLegal stateAllowed buttonLegal armedLegal commandByteLegal slpTypsLegal
+  power-on-listed e =
+      let bytes = mean-gpe (powerOn s) (legal-guaranteed s e, no-bytes _, no-bytes _, no-bytes _, no-bytes _) in
+      let hold = held-hold (powerOn s) (lit≤ tt, λ o n. lit< tt) in
+      rw (e, status-off, enables-off, bytes .0, bytes .1, counter-zero, hold, command-none, slp-typ-b-zero) refl
+
+  pub power-on-legal : legalSettings s ≡ true → settingsFit s ≡ true → legal (powerOn s) ≡ true
+  unfolding legal
+  power-on-legal e t = both (listed (powerOn s)) (settingsFit s) (power-on-listed e) t
+
+-- the machine of an accepted set-up is the one at power-on
+module _ (t : List ℕ) (event-homes control-homes : ℕ) (power-override : Bool) (pairs : List (List ℕ)) where
+  -- W2's list, whatever the numbers of the table
+  pub set-up-listed : setUpOf t event-homes control-homes power-override pairs .answer ≡ answer.Done
+      → listed (setUpOf t event-homes control-homes power-override pairs .machine) ≡ true
+  set-up-listed e =
+      let s = settingsOf t event-homes control-homes power-override pairs in
+      let same = accepted-machine t s e in
+      rw same (power-on-listed s (rw same at (accepted-legal t event-homes control-homes power-override pairs e)))
+
+  -- "all that accepted setting up .. give are legal": from a table of bytes and six pairs of two, as the code's types have them
+  pub set-up-legal : ((i : ℕ) → byte t i < 2 ^ 8) → length pairs ≡ 6 → any notTwo pairs ≡ false
+      → setUpOf t event-homes control-homes power-override pairs .answer ≡ answer.Done
+      → legal (setUpOf t event-homes control-homes power-override pairs .machine) ≡ true
+  unfolding legal
+  set-up-legal bytes six two e =
+      both (listed (setUpOf t event-homes control-homes power-override pairs .machine)) _ (set-up-listed e)
+      (set-up-fits t event-homes control-homes power-override pairs bytes six two)

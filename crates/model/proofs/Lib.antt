@@ -8,6 +8,7 @@ pub mod EventBits
 pub mod Raises
 pub mod Sized
 pub mod Bytes
+pub mod Fits
 pub mod Legal
 pub mod Readings
 pub mod Wakes

@@ -1,5 +1,6 @@
--- When a machine is legal: the list of request W2, document 02, which the comments quote, one test a clause. That setting up gives legal machines and every step keeps them legal
--- is `set-up-legal` and `legal-kept` of `proofs/Legal.antt`.
+-- When a machine is legal: the list of request W2, document 02, which the comments quote, one test a clause in the list's order, and the types of the
+-- fields. That setting up gives legal machines and every step keeps them legal is `set-up-legal` and `legal-kept` of `proofs/Legal.antt`.
+-- A clause marked "one value for each meaning" picks one of the machines that one text could stand for.
 use mathlib.Core.Bool.{Bool, true, false, not, _&&_, _||_}
 use mathlib.Core.List.{List, [], _∷_}
 use Prim.Native.Nat.{ℕ, _^_}
@@ -71,10 +72,6 @@ buttonLegal m = onlyIf (m .button) (fits (m .settings) pwrbtnBit)
 unfoldable pub commandLegal : Machine → Bool
 commandLegal m = onlyIf (eqb (m .settings .«smi_cmd») 0) (not (m .«command_waits») && m .«sci_en»)
 
--- the command is a byte, zero where none waits
-unfoldable pub commandByteLegal : Machine → Bool
-commandByteLegal m = ltb (m .command) 256 && onlyIf (not (m .«command_waits»)) (eqb (m .command) 0)
-
 -- "armed only in S0 with B control"
 unfoldable pub armedLegal : Machine → Bool
 armedLegal m = onlyIf (m .armed) (awake m && hasPm1bCnt (m .settings))
@@ -83,13 +80,17 @@ armedLegal m = onlyIf (m .armed) (awake m && hasPm1bCnt (m .settings))
 unfoldable pub slpTypBLegal : Machine → Bool
 slpTypBLegal m = onlyIf (not (hasPm1bCnt (m .settings))) (eqb (m .«slp_typ_b») 0)
 
--- each SLP_TYP has three bits
+-- one value for each meaning: the command is zero where none waits, and a byte; no text can break it
+unfoldable pub commandByteLegal : Machine → Bool
+commandByteLegal m = ltb (m .command) 256 && onlyIf (not (m .«command_waits»)) (eqb (m .command) 0)
+
+-- one value for each meaning: each SLP_TYP has three bits; no text can break it
 unfoldable pub slpTypsLegal : Machine → Bool
 slpTypsLegal m = ltb (m .«slp_typ_a») 8 && ltb (m .«slp_typ_b») 8
 
--- "settings pass rules 5 to 12", and the clauses above
-unfoldable pub legal : Machine → Bool
-legal m =
+-- W2's list: "settings pass rules 5 to 12", and the clauses above
+unfoldable pub listed : Machine → Bool
+listed m =
     legalSettings (m .settings) &&
     statusLegal m &&
     enablesLegal m &&
@@ -101,7 +102,32 @@ legal m =
     holdLegal m &&
     buttonLegal m &&
     commandLegal m &&
-    commandByteLegal m &&
     armedLegal m &&
     slpTypBLegal m &&
+    commandByteLegal m &&
     slpTypsLegal m
+
+-- ---- the types
+
+-- a pair has an a and a b
+unfoldable pub notTwo : List ℕ → Bool
+notTwo p = not (eqb (length p) 2)
+
+-- Each field fits its type; of the fields that are not here the list says as much. No text and no code can break it; the definitions need it, their
+-- numbers being unbounded, and their lists of any length.
+unfoldable pub settingsFit : Settings → Bool
+settingsFit s =
+    ltb (s .«acpi_enable») (2 ^ 8) &&
+    ltb (s .«acpi_disable») (2 ^ 8) &&
+    ltb (s .«gpe1_base») (2 ^ 8) &&
+    ltb (s .flags) (2 ^ 32) &&
+    eqb (length (s .sleep .pairs)) 6 &&
+    not (any notTwo (s .sleep .pairs))
+
+abbrev pub fitsTypes : Machine → Bool
+fitsTypes m = settingsFit (m .settings)
+
+-- ---- all of it
+
+unfoldable pub legal : Machine → Bool
+legal m = listed m && fitsTypes m

@@ -15,7 +15,7 @@ use Rattle.platform.specs.Rules.{blockCount, blocksOf, gpeLongest, event
 use Rattle.platform.specs.declared.block.Block.{Block}
 use Rattle.platform.specs.declared.settings.Settings.{Settings}
 
--- an absent block that has a length all the same
+-- an absent block that has a length all the same; that no PM1b block is one is one value for each meaning: no text can break it
 unfoldable pub strayLength : Block → Bool
 strayLength b = not (present b) && not (eqb (b .length) 0)
 

@@ -33,7 +33,9 @@ use Rattle.listing.proofs.Laws.{entry-length}
 use Rattle.script.specs.StepLine.{lineOf}
 use Rattle.script.specs.declared.step_line.Line.{Line}
 use Rattle.script.specs.declared.step_line.Line.the-variants as line
-use Rattle.session.specs.Session.{limit, lineEnd, isStep, stepReads, firstUnread, stepIn, entries, listingOf, answerFor, textFor, platformLineReads, setUpBy, unread, runAnswer, runBuffer, answerOf, bufferAfter}
+use Rattle.session.specs.Session.{limit, lineEnd, isStep, stepReads, firstUnread, stepIn, entries, ended, listingOf, answerFor, textFor, noEnd, stepLines, unread, runAnswer, runBuffer, runEnd, afterPlatformLine, platformLineReads, setUpBy, onceSetUp, answerOf, bufferAfter, sessionEnd}
+use Rattle.session.specs.declared.EndAnswer.the-variants as end
+use Rattle.session.specs.declared.Ended.{Ended}
 use Rattle.session.specs.declared.SessionAnswer.{SessionAnswer}
 use Rattle.session.specs.declared.SessionAnswer.the-variants as answer
 
@@ -142,6 +144,21 @@ module _ (xs : List ℕ) (i : ℕ) where
         rw (le-leb _ _ fit, entries-turn h)
         (sym (sets-then buf o (o + entryLength k (doneAt m .answer)) (entry k (doneAt m .answer) (doneAt m .machine)) moreAt (ap (λ (n : ℕ). o + n) long)))
 
+-- ---- the machine after the steps
+
+module _ (xs : List ℕ) (i : ℕ) (m : Machine) where
+  -- the machine after the lines from a place on
+  abbrev pub endedAt : Machine
+  endedAt = ended m (linesOf (drop i xs))
+
+  pub ended-turn : i < length xs → endedAt ≡ ended (doneAt xs i m .machine) (linesOf (drop (nextLine xs i) xs))
+  unfolding ended
+  ended-turn h = rw (line-turn xs i h) refl
+
+  pub ended-end : length xs ≤ i → endedAt ≡ m
+  unfolding ended
+  ended-end h = rw (line-end xs i h) refl
+
 -- ---- the listing, where it fits and where not
 
 module _ (m : Machine) (ls : List (List ℕ)) (l : List ℕ) where
@@ -177,63 +194,115 @@ module _ (m : Machine) (ls : List (List ℕ)) (l : List ℕ) where
       go (inl p) = omega (arith, p, listing-length)
       go (inr q) = omega (arith, listing-length, leb-false (length body) (length l - 32) q)
 
--- ---- a run, once set up: what its test says
+-- ---- a run: what its test says
 
-module _ (m : Machine) (script l : List ℕ) (from found : ℕ) (f : from ≡ nextLine script 0) (u : found ≡ firstUnread (length script) 2 from (linesOf (drop from script))) where
-  abbrev Runs : SessionAnswer → List ℕ → Type 0
-  Runs r exit = (r ≡ runAnswer m script (length l)) × (exit ≡ runBuffer m script l)
+module _ (m : Machine) (script : List ℕ) (from first found : ℕ) (u : found ≡ unread script from first) where
+  module _ (l : List ℕ) where
+    abbrev Runs : SessionAnswer → List ℕ → Type 0
+    Runs r exit = (r ≡ runAnswer m script from first (length l)) × (exit ≡ runBuffer m script from first l)
 
-  same-found : found ≡ unread script
-  same-found = u ∙ ap (λ (x : ℕ). firstUnread (length script) 2 x (linesOf (drop x script))) f
+    -- a line does not read: nothing is written
+    pub line-unread : (found ≡ 0 → ⊥) → Runs (answer.Line found) l
+    unfolding runAnswer runBuffer
+    line-unread w =
+        let no : eqb (unread script from first) 0 ≡ false = ne-eqb _ _ (λ e. w (u ∙ e)) in
+        (rw no (ap answer.Line u), rw no refl)
 
-  -- "a later line does not read, with its line number"
-  pub line-unread : (found ≡ 0 → ⊥) → Runs (answer.Line found) l
-  unfolding runAnswer runBuffer
-  line-unread w =
-      let no : eqb (unread script) 0 ≡ false = ne-eqb _ _ (λ e. w (same-found ∙ e)) in
-      (rw no (ap answer.Line same-found), rw no refl)
+    -- all reads: the listing, or no room
+    pub all-read : (r : SessionAnswer) (exit : List ℕ) → found ≡ 0
+        → (r ≡ answerFor (length (listingOf m (stepLines script from))) (length l)) × (exit ≡ textFor (listingOf m (stepLines script from)) l)
+        → Runs r exit
+    unfolding runAnswer runBuffer
+    all-read r exit w e =
+        let none : eqb (unread script from first) 0 ≡ true = eq-eqb _ _ (sym u ∙ w) in
+        (rw none (e .0), rw none (e .1))
 
-  -- all reads: the listing, or no room
-  pub all-read : (r : SessionAnswer) (exit : List ℕ) → found ≡ 0
-      → (r ≡ answerFor (length (listingOf m (linesOf (drop from script)))) (length l)) × (exit ≡ textFor (listingOf m (linesOf (drop from script))) l)
-      → Runs r exit
-  unfolding runAnswer runBuffer
-  all-read r exit w e =
-      let none : eqb (unread script) 0 ≡ true = eq-eqb _ _ (sym same-found ∙ w) in (
-        rw none (e .0 ∙ ap (λ (o : ℕ). answerFor (length (listingOf m (linesOf (drop o script)))) (length l)) f),
-        rw none (e .1 ∙ ap (λ (o : ℕ). textFor (listingOf m (linesOf (drop o script))) l) f),
-      )
+  -- the same of its end
+  pub end-unread : (found ≡ 0 → ⊥) → noEnd (end.Line found) ≡ runEnd m script from first
+  unfolding runEnd
+  end-unread w =
+      let no : eqb (unread script from first) 0 ≡ false = ne-eqb _ _ (λ e. w (u ∙ e)) in
+      rw no (ap (λ (k : ℕ). noEnd (end.Line k)) u)
+
+  pub end-reached : (after : Machine) → found ≡ 0 → after ≡ ended m (stepLines script from)
+      → record { answer = end.Done; machine = after } ≡ runEnd m script from first
+  unfolding runEnd
+  end-reached after w e =
+      let none : eqb (unread script from first) 0 ≡ true = eq-eqb _ _ (sym u ∙ w) in
+      rw none (ap (λ (x : Machine). record { answer = end.Done; machine = x }) e)
 
 -- ---- the session: what its tests say, in their order
 
-module _ (table script l : List ℕ) where
-  abbrev Ends : SessionAnswer → List ℕ → Type 0
-  Ends r exit = (r ≡ answerOf table script (length l)) × (exit ≡ bufferAfter table script l)
+module _ {A : Type 0} (table script : List ℕ) (done : Machine → A) (no-line : A) (refused : SetUpRefusal → A) where
+  abbrev Judged : A
+  Judged = onceSetUp table script done no-line refused
 
-  -- "the platform line does not read"
-  pub platform-unread : platformLineReads script ≡ false → Ends answer.PlatformLine l
-  unfolding answerOf bufferAfter
-  platform-unread p = (rw p refl, rw p refl)
+  judged-unread : platformLineReads script ≡ false → no-line ≡ Judged
+  judged-unread p = rw p refl
 
   module _ (made : SetUp) (p : platformLineReads script ≡ true) (q : made ≡ setUpBy table script) where
     same-answer : setUpBy table script .answer ≡ made .answer
     same-answer = ap (λ (x : SetUp). x .answer) (sym q)
 
+    judged-refused : (r : SetUpRefusal) → made .answer ≡ set-up.Refused r → refused r ≡ Judged
+    judged-refused r e = rw p (sym (if-refused _ _ refused r (same-answer ∙ e)))
+
+    judged-done : made .answer ≡ set-up.Done → done (made .machine) ≡ Judged
+    judged-done e = rw p (ap (λ (x : SetUp). done (x .machine)) q ∙ sym (if-done _ _ refused (same-answer ∙ e)))
+
+module _ (table script l : List ℕ) where
+  abbrev Ends : SessionAnswer → List ℕ → Type 0
+  Ends r exit = (r ≡ answerOf table script (length l)) × (exit ≡ bufferAfter table script l)
+
+  -- the run on a machine, from the line after the first
+  abbrev answered : Machine → SessionAnswer
+  answered m = runAnswer m script (afterPlatformLine script) 2 (length l)
+
+  abbrev left : Machine → List ℕ
+  left m = runBuffer m script (afterPlatformLine script) 2 l
+
+  -- "the platform line does not read"
+  pub platform-unread : platformLineReads script ≡ false → Ends answer.PlatformLine l
+  unfolding answerOf bufferAfter
+  platform-unread p = (judged-unread table script answered _ answer.SetUp p, judged-unread table script left _ (λ line. l) p)
+
+  module _ (made : SetUp) (p : platformLineReads script ≡ true) (q : made ≡ setUpBy table script) where
     -- "setting up refused, with its own number"
     pub set-up-refused : (r : SetUpRefusal) → made .answer ≡ set-up.Refused r → Ends (answer.SetUp r) l
     unfolding answerOf bufferAfter
-    set-up-refused r e =
-        (rw p (sym (if-refused _ _ answer.SetUp r (same-answer ∙ e))), rw p (sym (if-refused _ _ (λ line. l) r (same-answer ∙ e))))
+    set-up-refused r e = (judged-refused table script answered answer.PlatformLine answer.SetUp made p q r e, judged-refused table script left l (λ line. l) made p q r e)
 
     -- set up: the run on its machine
-    pub set-up-done : (r : SessionAnswer) (exit : List ℕ) → made .answer ≡ set-up.Done
-        → (r ≡ runAnswer (made .machine) script (length l)) × (exit ≡ runBuffer (made .machine) script l)
+    pub set-up-done : (from : ℕ) (r : SessionAnswer) (exit : List ℕ) → made .answer ≡ set-up.Done → from ≡ afterPlatformLine script
+        → (r ≡ runAnswer (made .machine) script from 2 (length l)) × (exit ≡ runBuffer (made .machine) script from 2 l)
         → Ends r exit
     unfolding answerOf bufferAfter
-    set-up-done r exit e h = (
-      rw p (h .0 ∙ ap (λ (x : SetUp). runAnswer (x .machine) script (length l)) q ∙ sym (if-done _ _ answer.SetUp (same-answer ∙ e))),
-      rw p (h .1 ∙ ap (λ (x : SetUp). runBuffer (x .machine) script l) q ∙ sym (if-done _ _ (λ line. l) (same-answer ∙ e))),
+    set-up-done from r exit e f h = (
+      h .0 ∙ ap (λ (o : ℕ). runAnswer (made .machine) script o 2 (length l)) f ∙ judged-done table script answered answer.PlatformLine answer.SetUp made p q e,
+      h .1 ∙ ap (λ (o : ℕ). runBuffer (made .machine) script o 2 l) f ∙ judged-done table script left l (λ line. l) made p q e,
     )
+
+-- the same of its end
+module _ (table script : List ℕ) where
+  abbrev reached : Machine → Ended
+  reached m = runEnd m script (afterPlatformLine script) 2
+
+  abbrev refused-by : SetUpRefusal → Ended
+  refused-by line = noEnd (end.SetUp line)
+
+  pub no-end-unread : platformLineReads script ≡ false → noEnd end.PlatformLine ≡ sessionEnd table script
+  unfolding sessionEnd
+  no-end-unread p = judged-unread table script reached _ refused-by p
+
+  module _ (made : SetUp) (p : platformLineReads script ≡ true) (q : made ≡ setUpBy table script) where
+    pub no-end-refused : (r : SetUpRefusal) → made .answer ≡ set-up.Refused r → noEnd (end.SetUp r) ≡ sessionEnd table script
+    unfolding sessionEnd
+    no-end-refused r e = judged-refused table script reached (noEnd end.PlatformLine) refused-by made p q r e
+
+    pub end-done : (from : ℕ) → made .answer ≡ set-up.Done → from ≡ afterPlatformLine script → runEnd (made .machine) script from 2 ≡ sessionEnd table script
+    unfolding sessionEnd
+    end-done from e f =
+        ap (λ (o : ℕ). runEnd (made .machine) script o 2) f ∙ judged-done table script reached (noEnd end.PlatformLine) refused-by made p q e
 
 -- ---- room for any answers
 

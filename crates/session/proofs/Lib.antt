@@ -1,1 +1,3 @@
+pub mod Cut
+pub mod CutScript
 pub mod Laws

@@ -1,10 +1,11 @@
-// A session: a script run on a table's machine, and its listing.
+// A session: a script run on a table's machine, or steps on a given one, and its listing or the machine at its end.
 use listing::HEADER_LENGTH;
 use listing::entry_length;
 use listing::write_entry;
 use listing::write_header;
 use machine::Machine;
 use machine::SetUp;
+use machine::all_zero;
 use model::Step;
 use model::Stepped;
 use platform::SetUpAnswer;
@@ -27,8 +28,8 @@ ghost use lib.Seq.{sets};
 ghost use lib.ListN.{length, drop};
 ghost use Rattle.text.specs.Numbers.{digitCount};
 ghost use Rattle.text.specs.Parts.{lf, front, linesOf};
-ghost use Rattle.session.specs.Answer.{sessionNumber, sessionValue};
-ghost use Rattle.session.specs.Session.{stepReads, firstUnread, stepIn, entries, listingOf, answerFor, textFor, platformLineReads, setUpBy, runAnswer, runBuffer, answerOf, bufferAfter};
+ghost use Rattle.session.specs.Answer.{sessionNumber, sessionValue, endNumber, endValue};
+ghost use Rattle.session.specs.Session.{stepReads, stepIn, entries, ended, listingOf, answerFor, textFor, noEnd, unread, runAnswer, runBuffer, runEnd, platformLineReads, setUpBy, answerOf, bufferAfter, sessionEnd, resumedAnswer, resumedBuffer, resumedEnd};
 ghost use Rattle.model.specs.Step.{stepOf};
 ghost use Rattle.script.specs.StepLine.{lineOf};
 
@@ -42,6 +43,23 @@ pub enum SessionAnswer {
     // a later line does not read: its number
     Line(usize),
     NoRoom,
+}
+
+pub enum EndAnswer {
+    // all steps are done
+    Done,
+    // the platform line does not read
+    PlatformLine,
+    // setting up is refused, by this line of its table
+    SetUp(SetUpRefusal),
+    // a later line, or one of the steps resumed with, does not read: its number
+    Line(usize),
+}
+
+// The machine at the end; all zero where there is none.
+pub struct Ended {
+    pub answer: EndAnswer,
+    pub machine: Machine,
 }
 
 // A script's bytes past this many do not read.
@@ -59,11 +77,12 @@ fn step_reads(source: &[u8], start: usize) -> bool
     }
 }
 
-// The first line from a place on that does not read, by its number, the platform line being 1; 0 where all read.
-fn first_unread(source: &[u8], from: usize) -> usize
-    ensures { λ r. ⌜ r ≡ firstUnread (length (now (source .entry))) 2 from (linesOf (drop from (now (source .entry)))) ⌝ }
+// The first line from a place on that does not read, by its number, where the line at that place has the number `first`; 0 where all read.
+fn first_unread(source: &[u8], from: usize, first: usize) -> usize
+    requires { ⌜ first ≤ 2 ⌝ }
+    ensures { λ r. ⌜ r ≡ unread (now (source .entry)) from first ⌝ }
 {
-    let mut k = 2;
+    let mut k = first;
     let mut start = from;
     while start < source.len() {
         if step_reads(source, start) {
@@ -180,6 +199,30 @@ fn write_listing(buf: &mut [u8], m: Machine, source: &[u8], from: usize) -> Sess
     SessionAnswer::NoRoom
 }
 
+// The machine after the steps from a place on.
+fn machine_after(m: Machine, source: &[u8], from: usize) -> Machine
+    ensures { λ r. ⌜ r ≡ ended m (linesOf (drop from (now (source .entry)))) ⌝ }
+{
+    let mut current = m;
+    let mut start = from;
+    while start < source.len() {
+        let stepped = stepped_at(current, source, start);
+        current = stepped.machine;
+        start = next_line(source, start);
+    }
+    current
+}
+
+fn no_end(why: EndAnswer) -> Ended
+    ensures { λ r. ⌜ r ≡ noEnd why ⌝ }
+{
+    let machine = all_zero();
+    Ended {
+        answer: why,
+        machine,
+    }
+}
+
 fn platform_line_reads(source: &[u8]) -> bool
     ensures { λ r. ⌜ r ≡ platformLineReads (now (source .entry)) ⌝ }
 {
@@ -201,16 +244,32 @@ fn set_up_by(table: &[u8], source: &[u8]) -> SetUp
     )
 }
 
-// Lists the steps of a script on a machine, where every line after the first reads.
-fn run(buf: &mut [u8], m: Machine, source: &[u8]) -> SessionAnswer
-    ensures { λ r. ⌜ (r ≡ runAnswer m (now (source .entry)) (length (now (buf .entry)))) × (now (buf .exit) ≡ runBuffer m (now (source .entry)) (now (buf .entry))) ⌝ }
+// Lists the steps from a place on, on a machine, where every line from there reads.
+fn run(buf: &mut [u8], m: Machine, source: &[u8], from: usize, first: usize) -> SessionAnswer
+    requires { ⌜ first ≤ 2 ⌝ }
+    ensures { λ r. ⌜ (r ≡ runAnswer m (now (source .entry)) from first (length (now (buf .entry)))) × (now (buf .exit) ≡ runBuffer m (now (source .entry)) from first (now (buf .entry))) ⌝ }
 {
-    let from = next_line(source, 0);
-    let unread = first_unread(source, from);
+    let unread = first_unread(source, from, first);
     if unread == 0 {
         return write_listing(buf, m, source, from);
     }
     SessionAnswer::Line(unread)
+}
+
+// The machine at the end of the same.
+fn run_end(m: Machine, source: &[u8], from: usize, first: usize) -> Ended
+    requires { ⌜ first ≤ 2 ⌝ }
+    ensures { λ r. ⌜ r ≡ runEnd m (now (source .entry)) from first ⌝ }
+{
+    let line = first_unread(source, from, first);
+    if line == 0 {
+        let machine = machine_after(m, source, from);
+        return Ended {
+            answer: EndAnswer::Done,
+            machine,
+        };
+    }
+    no_end(EndAnswer::Line(line))
 }
 
 // Runs a script on the machine of a table and writes the listing; the lent buffer is touched only where all of it reads and fits.
@@ -221,11 +280,40 @@ pub fn session(table: &[u8], source: &[u8], buf: &mut [u8]) -> SessionAnswer
         let made = set_up_by(table, source);
         let answer = made.answer;
         return match answer {
-            SetUpAnswer::Done => run(buf, made.machine, source),
+            SetUpAnswer::Done => run(buf, made.machine, source, next_line(source, 0), 2),
             SetUpAnswer::Refused(line) => SessionAnswer::SetUp(line),
         };
     }
     SessionAnswer::PlatformLine
+}
+
+// The machine at the end of a session.
+pub fn end(table: &[u8], source: &[u8]) -> Ended
+    ensures { λ r. ⌜ r ≡ sessionEnd (now (table .entry)) (now (source .entry)) ⌝ }
+{
+    if platform_line_reads(source) {
+        let made = set_up_by(table, source);
+        let answer = made.answer;
+        return match answer {
+            SetUpAnswer::Done => run_end(made.machine, source, next_line(source, 0), 2),
+            SetUpAnswer::Refused(line) => no_end(EndAnswer::SetUp(line)),
+        };
+    }
+    no_end(EndAnswer::PlatformLine)
+}
+
+// Goes on from a machine: all lines are steps, and the first is line 1. Writes the listing, its steps counted from 1; the lent buffer is touched only where all of it reads and fits.
+pub fn resume(m: Machine, source: &[u8], buf: &mut [u8]) -> SessionAnswer
+    ensures { λ r. ⌜ (r ≡ resumedAnswer m (now (source .entry)) (length (now (buf .entry)))) × (now (buf .exit) ≡ resumedBuffer m (now (source .entry)) (now (buf .entry))) ⌝ }
+{
+    run(buf, m, source, 0, 1)
+}
+
+// The machine at the end of the same.
+pub fn resume_end(m: Machine, source: &[u8]) -> Ended
+    ensures { λ r. ⌜ r ≡ resumedEnd m (now (source .entry)) ⌝ }
+{
+    run_end(m, source, 0, 1)
 }
 
 // The number of an answer, and its value.
@@ -250,5 +338,28 @@ pub fn value(a: SessionAnswer) -> usize
         SessionAnswer::SetUp(line) => platform::refusal_value(line) as usize,
         SessionAnswer::Line(line) => line,
         SessionAnswer::NoRoom => 0,
+    }
+}
+
+// The number of an end's answer, and its value.
+pub fn end_number(a: EndAnswer) -> u8
+    ensures { λ r. ⌜ r ≡ endNumber a ⌝ }
+{
+    match a {
+        EndAnswer::Done => 0,
+        EndAnswer::PlatformLine => 46,
+        EndAnswer::SetUp(line) => platform::refusal_number(line),
+        EndAnswer::Line(_) => 46,
+    }
+}
+
+pub fn end_value(a: EndAnswer) -> usize
+    ensures { λ r. ⌜ r ≡ endValue a ⌝ }
+{
+    match a {
+        EndAnswer::Done => 0,
+        EndAnswer::PlatformLine => 1,
+        EndAnswer::SetUp(line) => platform::refusal_value(line) as usize,
+        EndAnswer::Line(line) => line,
     }
 }

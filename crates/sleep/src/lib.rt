@@ -23,7 +23,7 @@ impl SleepTable {
     }
 }
 
-fn absent(p: [u8; 2]) -> bool
+pub fn absent(p: [u8; 2]) -> bool
     ensures { λ r. ⌜ r ≡ absent p ⌝ }
 {
     (p[0] == 255) & (p[1] == 255)

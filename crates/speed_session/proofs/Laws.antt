@@ -9,7 +9,7 @@ use Rattle.platform.specs.Answer.{ifDone}
 use Rattle.platform.specs.declared.rules.SetUpAnswer.{SetUpAnswer}
 use Rattle.platform.specs.declared.rules.SetUpAnswer.the-variants as set-up
 use Rattle.listing.specs.Entry.{putAt}
-use Rattle.session.specs.Session.{listingOf, textFor, platformLineReads, stepLines, setUpBy, unread, runBuffer, bufferAfter}
+use Rattle.session.specs.Session.{listingOf, textFor, stepLines, unread, runBuffer, afterPlatformLine, platformLineReads, setUpBy, bufferAfter}
 use Rattle.session.proofs.Laws.{put-length}
 use Rattle.speed_session.specs.Sessions.{sessionTurn, sumAfter, buffersAfter}
 
@@ -34,10 +34,10 @@ module _ (table script : List ℕ) where
   -- a session keeps the buffer's length
   pub buffer-length : (buffer : List ℕ) → length (bufferAfter table script buffer) ≡ length buffer
   unfolding bufferAfter runBuffer textFor
-  buffer-length buffer = go (platformLineReads script) (setUpBy table script .answer) (eqb (unread script) 0)
+  buffer-length buffer = go (platformLineReads script) (setUpBy table script .answer) (eqb (unread script (afterPlatformLine script) 2) 0)
     where
       text : List ℕ
-      text = listingOf (setUpBy table script .machine) (stepLines script)
+      text = listingOf (setUpBy table script .machine) (stepLines script (afterPlatformLine script))
 
       go : (a : Bool) (b : SetUpAnswer) (c : Bool) → length (cond a (ifDone b (cond c (putAt buffer 0 text) buffer) (λ line. buffer)) buffer) ≡ length buffer
       go true set-up.Done true = put-length buffer 0 text

@@ -7,6 +7,7 @@ pub mod Sides
 pub mod Leads
 pub mod Moves
 pub mod WriteBack
+pub mod Legal
 pub mod WakesAtOnce
 pub mod Platform
 pub mod Refuted

@@ -1,5 +1,5 @@
--- Where the claims start: at a machine as setting up gives it, or after any steps from there; of a set-up and a step.
-use mathlib.Core.Bool.{Bool}
+-- Where the claims start: at a machine as setting up gives it, at any legal one, or after any steps from there; of a set-up and a step.
+use mathlib.Core.Bool.{Bool, true}
 use mathlib.Core.List.{List}
 use mathlib.Core.Path.{_≡_}
 use Prim.Native.Nat.{ℕ}
@@ -7,6 +7,7 @@ use Rattle.runs.specs.Items.{after}
 use Rattle.platform.specs.declared.rules.SetUpAnswer.the-variants as set-up
 use Rattle.machine.specs.declared.Machine.{Machine}
 use Rattle.machine.specs.declared.SetUp.{SetUp}
+use Rattle.model.specs.Legal.{legal}
 use Rattle.model.specs.declared.Step.{Step}
 use Rattle.model.specs.declared.Stepped.{Stepped}
 
@@ -36,3 +37,11 @@ FromSetUp setting P =
 -- "after any steps from setting up": P of every machine that such steps lead to
 abbrev pub AfterSteps : SettingUp → Stepping → (Machine → Type 0) → Type 0
 AfterSteps setting stepped P = FromSetUp setting (λ m. (steps : List Step) → P (after (nextBy stepped) m steps))
+
+-- request W2: "Demand 3 holds from a machine read back too": P of every legal machine, whatever gave it
+abbrev pub FromLegal : (Machine → Type 0) → Type 0
+FromLegal P = (m : Machine) → legal m ≡ true → P m
+
+-- P of every machine that any steps from a legal one lead to
+abbrev pub AfterLegal : Stepping → (Machine → Type 0) → Type 0
+AfterLegal stepped P = FromLegal (λ m. (steps : List Step) → P (after (nextBy stepped) m steps))

@@ -136,6 +136,9 @@ module _ (b : ℕ) (two : 1 < b) where
   fewest-of-number m x xs h e w =
       rw (number-is-value b m (x ∷ xs) (written-number b m (x ∷ xs) (omega arith) h e)) (fewest-of-value x xs e w)
 
--- what is written of a 64-bit number in decimal means the number: 20 digits are enough
+-- a 64-bit number has at most 20 decimal digits, and what is written of it means the number
+pub at-most-20 : (n : ℕ) → n < 2 ^ 64 → digitCount 10 n ≤ 20
+at-most-20 n h = digits-fewest 10 (omega arith) n 20 (omega arith) (lt-of-lt-of-le h (omega arith))
+
 pub decimal-of-fewest : (n : ℕ) → n < 2 ^ 64 → numberOf 10 20 (digits 10 (digitCount 10 n) n) ≡ n
 decimal-of-fewest n h = number-of-fewest 10 (omega arith) (omega arith) 20 n (omega arith) (lt-of-lt-of-le h (omega arith))

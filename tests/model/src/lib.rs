@@ -1,11 +1,13 @@
 //! The ward laptop's power registers once more: document 01's machine as plain code over plain state.
-//! A module for each of its headings. It shares nothing with the proved crates, so that the two can be compared.
+//! A module for each of its headings, and `saved` for request W2's text. It shares nothing with the proved crates, so
+//! that the two can be compared.
 
 mod bus;
 mod cells;
 mod events;
 mod firmware;
 mod lines;
+pub mod saved;
 mod session;
 mod set_up;
 mod sleep;
@@ -60,5 +62,7 @@ pub struct Machine {
     pub release: bool,
 }
 
+#[cfg(test)]
+mod saved_tests;
 #[cfg(test)]
 mod tests;

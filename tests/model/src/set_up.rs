@@ -49,6 +49,10 @@ pub struct Hardware {
     pub gpe: [Block; 2],
     /// The first general event of each GPE block.
     pub gpe_base: [u32; 2],
+    /// As given, with the bits that nothing uses.
+    pub flags: u32,
+    pub event_homes: u16,
+    pub control_homes: u16,
     /// Event bits that are fitted, and those of them that A and B reach.
     pub fitted: u16,
     pub visible: [u16; 2],
@@ -65,6 +69,12 @@ pub struct Hardware {
 pub fn set_up(table: &[u8], settings: &Settings) -> Result<Machine, u8> {
     check_bytes(table)?;
     let fadt = Fadt::read(table);
+    rules_5_to_12(&fadt, settings)?;
+    Ok(power_on(fadt.hardware(settings)))
+}
+
+/// The first that fails.
+pub(crate) fn rules_5_to_12(fadt: &Fadt, settings: &Settings) -> Result<(), u8> {
     let rules = [
         (5, fadt.flag(20)),
         (6, !fadt.lengths_allowed()),
@@ -77,7 +87,7 @@ pub fn set_up(table: &[u8], settings: &Settings) -> Result<Machine, u8> {
     ];
     match rules.iter().find(|(_, refused)| *refused) {
         Some((number, _)) => Err(*number),
-        None => Ok(power_on(fadt.hardware(settings))),
+        None => Ok(()),
     }
 }
 
@@ -101,17 +111,17 @@ fn check_bytes(table: &[u8]) -> Result<(), u8> {
 }
 
 /// The fields that are read.
-struct Fadt {
-    smi_cmd: Block,
-    acpi_enable: u8,
-    acpi_disable: u8,
-    event: [Block; 2],
-    control: [Block; 2],
-    pm2: Block,
-    timer: Block,
-    gpe: [Block; 2],
-    gpe1_base: u32,
-    flags: u32,
+pub(crate) struct Fadt {
+    pub smi_cmd: Block,
+    pub acpi_enable: u8,
+    pub acpi_disable: u8,
+    pub event: [Block; 2],
+    pub control: [Block; 2],
+    pub pm2: Block,
+    pub timer: Block,
+    pub gpe: [Block; 2],
+    pub gpe1_base: u32,
+    pub flags: u32,
 }
 
 impl Fadt {
@@ -198,7 +208,7 @@ impl Fadt {
         pairs().all(|(a, b)| a <= 7 && b <= 7 && pairs().filter(|pair| same(*pair, (a, b))).count() == 1)
     }
 
-    fn hardware(&self, settings: &Settings) -> Hardware {
+    pub(crate) fn hardware(&self, settings: &Settings) -> Hardware {
         let fitted = fitted(self.flags, self.timer.present());
         let (event_homes, control_homes) = (settings.event_homes, settings.control_homes);
         Hardware {
@@ -211,6 +221,9 @@ impl Fadt {
             timer: self.timer,
             gpe: self.gpe,
             gpe_base: [0, self.gpe1_base],
+            flags: self.flags,
+            event_homes,
+            control_homes,
             fitted,
             visible: [fitted & !event_homes, fitted & event_homes],
             control_visible: [CONTROLS & !control_homes, control_homes],

@@ -1,6 +1,7 @@
 use borrow.Author.Needs.{needs}
 use native.Mathlib.Omega.{arith}
-use Rattle.listing.proofs.Laws.{at-most-20, sum-fits, rest-fits}
+use Rattle.listing.proofs.Laws.{sum-fits, rest-fits}
+use Rattle.text.proofs.Fewest.{at-most-20}
 use Rattle.listing.proofs.entry_length.Statement.{statement}
 use Rattle.listing.proofs.entry_length.Tie as tie
 

@@ -1,7 +1,7 @@
 -- `session::any_entries_fit` meets its contract: it is the definition's test. Assumes nothing.
 use native.Mathlib.Omega.{arith}
 use borrow.Author.Needs.{needs}
-use Rattle.listing.proofs.Laws.{at-most-20}
+use Rattle.text.proofs.Fewest.{at-most-20}
 use Rattle.session.proofs.any_entries_fit.Statement.{statement}
 use Rattle.session.proofs.any_entries_fit.Tie as tie
 

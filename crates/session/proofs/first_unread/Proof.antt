@@ -13,12 +13,12 @@ use Rattle.session.proofs.first_unread.Statement.{statement}
 use Rattle.session.proofs.first_unread.Tie as tie
 
 abbrev Inv-loop : tie.InvT-loop
-Inv-loop source from k₀ start₀ k start =
-    (firstUnread (length source) k start (linesOf (drop start source)) ≡ firstUnread (length source) 2 from (linesOf (drop from source)))
+Inv-loop source from first k₀ start₀ k start =
+    (firstUnread (length source) k start (linesOf (drop start source)) ≡ firstUnread (length source) first from (linesOf (drop from source)))
     × (k ≤ start + 2)
 
 abbrev μ-loop : tie.MeasureT-loop
-μ-loop source from k₀ start₀ k start = length source - start
+μ-loop source from first k₀ start₀ k start = length source - start
 
 loop-holds : tie.Need-loop-holds Inv-loop μ-loop
 loop-holds c = (refl, omega arith)

@@ -1,6 +1,6 @@
 use mathlib.Core.Path.{sym, _∙_}
-use Rattle.session.proofs.Laws.{platform-unread, set-up-refused, set-up-done}
 use borrow.Author.Needs.{needs}
+use Rattle.session.proofs.Laws.{platform-unread, set-up-refused, set-up-done}
 use Rattle.session.proofs.session.Statement.{statement}
 use Rattle.session.proofs.session.Tie as tie
 
@@ -13,6 +13,9 @@ set-up-by-requires c κs = search needs
 enum-told : tie.Need-enum-told
 enum-told c = search needs
 
+next-line-requires : tie.Need-next-line-requires
+next-line-requires c κs = search needs
+
 run-requires : tie.Need-run-requires
 run-requires c κs = search needs
 
@@ -24,9 +27,10 @@ same-length c = search needs
 
 returns : tie.Need-returns
 returns c =
-    let start : _ = c .before .before .before .before .before .before .before .before .before .before .before .before in
-    set-up-done (start .args .table .now) (start .args .source .now) (start .args .buf .now) _ (sym (c .before .before .before .before .before .before .before .before .platform-line-reads .ensures) ∙ c .before .before .before .before .before .before .before .if1 .taken)
-    (c .before .before .before .before .before .before .set-up-by .ensures) _ _ (c .before .before .before .before .enum-told .given .1) (c .before .before .run .ensures)
+    let at : _ = c .before .before .before .before .before in
+    let start : _ = at .before .before .before .before .before .before .before .before in
+    set-up-done (start .args .table .now) (start .args .source .now) (start .args .buf .now) _ (sym (at .before .before .before .before .platform-line-reads .ensures) ∙ at .before .before .before .if1 .taken)
+    (at .before .before .set-up-by .ensures) _ _ _ (at .enum-told .given .1) (c .before .before .before .next-line .ensures) (c .before .before .run .ensures)
 
 returns-2 : tie.Need-returns-2
 returns-2 c =
@@ -46,6 +50,7 @@ session-spec =
     platform-line-reads-requires
     set-up-by-requires
     enum-told
+    next-line-requires
     run-requires
     enum-known-answer
     same-length

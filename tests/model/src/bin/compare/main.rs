@@ -7,7 +7,11 @@ mod halves;
 mod platform;
 mod programs;
 mod random;
+mod records;
 mod sessions;
+mod states;
+#[cfg(test)]
+mod states_tests;
 mod steps;
 mod text;
 
@@ -28,7 +32,9 @@ const WORKERS: usize = 2;
 const USAGE: &str = "usage: tests/compare             random sessions and the examples, bench against the model
        tests/compare --seed N    one session, and its folder
        tests/compare --faults    each fault of tests/FAULTS.md is found by its seed
-       tests/compare --find      the first seed that finds each fault";
+       tests/compare --find      the first seed that finds each fault
+       tests/compare --states SEED N [FOLDER]
+                                 N saved texts, damaged or not, and what the model answers to each";
 
 /// The project's folder, the programs, and a temporary folder for each worker.
 pub struct Places {
@@ -55,6 +61,10 @@ fn main() -> ExitCode {
         ["--seed", seed] => match seed.parse() {
             Ok(seed) => return end(places.programs.present().and_then(|()| one_seed(&places, seed))),
             Err(_) => return usage(),
+        },
+        ["--states", seed, count, folder @ ..] if folder.len() < 2 => match (seed.parse(), count.parse()) {
+            (Ok(seed), Ok(count)) => return end(states::print(seed, count, folder.first().map(Path::new))),
+            _ => return usage(),
         },
         ["--help"] => {
             println!("{USAGE}");

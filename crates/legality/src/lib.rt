@@ -1,0 +1,39 @@
+// Whether a machine passes the list of request W2, document 02, and if not the first clause that it breaks.
+mod clauses;
+
+pub use clauses::judge;
+use platform::SetUpRefusal;
+
+pub enum Legality {
+    Legal,
+    // the first clause that is broken
+    Breaks(Clause),
+}
+
+// The clauses in the list's order; the comments quote it.
+pub enum Clause {
+    // "settings pass rules 5 to 12": the first that refuses
+    Settings(SetUpRefusal),
+    // "no unfitted or reserved bit, bit outside its home": of the PM1 status, the PM1 enables, and the general event bytes
+    Status,
+    Enables,
+    GeneralEvents,
+    // "or ARB_DIS without PM2"
+    ArbDis,
+    // "S0, S5 or a present state"
+    State,
+    // "counter below its size"
+    Counter,
+    // "hold at most 14,318,180, and below it outside S5 with the override fitted"
+    Hold,
+    // "button down only where fitted"
+    Button,
+    // "no command, and SCI_EN set, without SMI_CMD"
+    Command,
+    // "armed only in S0 with B control"
+    Armed,
+    // "B's SLP_TYP zero without B"
+    SlpTypB,
+    // one value for each meaning: no text can break it
+    OneValue,
+}

@@ -1,0 +1,5 @@
+pub mod Ascii
+pub mod Rows
+pub mod Records
+pub mod Table
+pub mod Bytes

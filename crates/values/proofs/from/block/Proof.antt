@@ -1,0 +1,15 @@
+use borrow.Author.Needs.{needs}
+use Rattle.values.proofs.from.block.Statement.{statement}
+use Rattle.values.proofs.from.block.Tie as tie
+
+low8-requires : tie.Need-low8-requires
+low8-requires c κs = search needs
+
+new-requires : tie.Need-new-requires
+new-requires c κs = search needs
+
+returns : tie.Need-returns
+returns c = simp (c .new .ensures, c .before .low8 .ensures)
+
+pub block-spec : {M : Type 1} → statement M
+block-spec = tie.close (tie.spec low8-requires new-requires returns)
