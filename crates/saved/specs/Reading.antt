@@ -15,7 +15,7 @@ use Rattle.machine.specs.declared.Machine.{Machine}
 use Rattle.model.specs.Legal.{legal}
 use Rattle.legality.specs.Legality.{legalityOf, ifLegal}
 use Rattle.values.specs.Agree.{agreeing}
-use Rattle.values.specs.Values.{machineFrom, valuesOf, sameValues}
+use Rattle.values.specs.Values.{machineFrom, valuesOf, sameValues, valuesAgree}
 use Rattle.saved.specs.Text.{newest, Parts, parts, own0, own1, editionLine, textOf, recordsAt, gpeAt}
 use Rattle.saved.specs.declared.ReadBack.{ReadBack}
 use Rattle.saved.specs.declared.ReadAnswer.{ReadAnswer}
@@ -74,7 +74,7 @@ wellFormed edition text = sameText text (textOf edition (partsIn edition text))
 
 -- legal: the machine is, and its registers have the values of the text, so that no bit stands outside its home or where no cell is
 unfoldable pub legalText : ℕ → List ℕ → Bool
-legalText edition text = legal (machineIn edition text) && sameValues (valuesOf (machineIn edition text)) (valuesRead edition text)
+legalText edition text = legal (machineIn edition text) && valuesAgree (valuesRead edition text)
 
 -- ---- the answer
 

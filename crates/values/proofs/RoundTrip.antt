@@ -5,10 +5,10 @@ use mathlib.Core.Bool.{Bool, true, false, not, cond, _&&_, _||_, false≢true}
 use mathlib.Core.List.{List, [], _∷_, _++_}
 use mathlib.Core.Path.{_≡_, refl, sym, _∙_, ap}
 use Prim.Native.Nat.{ℕ, _/_, _%_, _^_, _≤_, _<_}
-use native.Mathlib.Nat.{mod-eq-of-lt}
+use native.Mathlib.Nat.{mod-eq-of-lt, lt-of-lt-of-le}
 use native.Mathlib.Omega.{arith}
 use borrow.Author.Tests.{eqb-true, ltb-true, leb-true, not-true, not-false}
-use lib.Dec.{eqb, ltb, leb, lit<}
+use lib.Dec.{eqb, ltb, leb, lit<, lit≤}
 use lib.ListN.{length, getD, List·getD-eq-default}
 use Rattle.lists.specs.Any.{any}
 use Rattle.lists.proofs.Search.{any-none}
@@ -66,14 +66,14 @@ fit-means s e =
 -- ---- the settings
 
 -- a block of a length that fits, or with none
-length-small : (b : Block) (n : ℕ) → n < 2 ^ 8 → HasLength n b → HasNone b → b .length < 2 ^ 8
+pub length-small : (b : Block) (n : ℕ) → n < 2 ^ 8 → HasLength n b → HasNone b → b .length < 2 ^ 8
 length-small b n h has none = go (present b) refl
   where
     go : (t : Bool) → present b ≡ t → b .length < 2 ^ 8
     go true p = rw (has p) h
     go false p = rw (none p) (lit< tt)
 
-gpe-length-small : (b : Block) → HasGpeLength b → HasNone b → b .length < 2 ^ 8
+pub gpe-length-small : (b : Block) → HasGpeLength b → HasNone b → b .length < 2 ^ 8
 gpe-length-small b has none = go (present b) refl
   where
     go : (t : Bool) → present b ≡ t → b .length < 2 ^ 8
@@ -131,22 +131,22 @@ module _ (s : Settings) (g : Guaranteed s) (f : Fit s) where
 -- ---- the machine's own fields
 
 -- a state past the six is absent, so a legal state is below 6
-pub state-small : (s : Settings) (state : ℕ) → length (s .sleep .pairs) ≡ 6 → stateAllowed s state ≡ true → state < 2 ^ 8
+pub state-small : (s : Settings) (state : ℕ) → length (s .sleep .pairs) ≡ 6 → stateAllowed s state ≡ true → state < 6
 unfolding stateAllowed absent
-state-small s state six e = below-or-beyond state 6 (λ h. omega arith) past
+state-small s state six e = below-or-beyond state 6 (λ h. h) past
   where
-    past : 6 ≤ state → state < 2 ^ 8
+    past : 6 ≤ state → state < 6
     past h =
         let gone : getD (s .sleep .pairs) state absentPair ≡ absentPair = List·getD-eq-default (s .sleep .pairs) absentPair (rw six h) in
         let zero-or-five : (eqb state 0 || eqb state 5 || false) ≡ true = rw gone at e in
         go (eqb state 0) (eqb state 5) refl refl zero-or-five
       where
-        go : (t u : Bool) → eqb state 0 ≡ t → eqb state 5 ≡ u → (t || u || false) ≡ true → state < 2 ^ 8
+        go : (t u : Bool) → eqb state 0 ≡ t → eqb state 5 ≡ u → (t || u || false) ≡ true → state < 6
         go true u p q r = omega (arith, eqb-true state 0 p)
         go false true p q r = omega (arith, eqb-true state 5 q)
         go false false p q r = absurd (false≢true r)
 
-counter-small : (m : Machine) → counterLegal m ≡ true → m .counter < 2 ^ 32
+pub counter-small : (m : Machine) → counterLegal m ≡ true → m .counter < 2 ^ 32
 unfolding counterLegal
 counter-small m e = go (wideTimer (m .settings)) (ltb-true (m .counter) (2 ^ counterBits (wideTimer (m .settings))) e)
   where
@@ -154,11 +154,11 @@ counter-small m e = go (wideTimer (m .settings)) (ltb-true (m .counter) (2 ^ cou
     go true h = h
     go false h = omega arith
 
-hold-small : (m : Machine) → holdLegal m ≡ true → m .hold < 2 ^ 32
+pub hold-small : (m : Machine) → holdLegal m ≡ true → m .hold < 2 ^ 32
 unfolding holdLegal
 hold-small m e = omega (arith, leb-true (m .hold) holdLimit (and-left (leb (m .hold) holdLimit) _ e))
 
-command-small : (m : Machine) → commandByteLegal m ≡ true → (m .command < 2 ^ 8) × (m .«command_waits» ≡ false → m .command ≡ 0)
+pub command-small : (m : Machine) → commandByteLegal m ≡ true → (m .command < 2 ^ 8) × (m .«command_waits» ≡ false → m .command ≡ 0)
 unfolding commandByteLegal
 command-small m e = (
   ltb-true (m .command) 256 (and-left (ltb (m .command) 256) _ e),
@@ -212,6 +212,6 @@ machine-back m e =
       slp-typ-back sci-b bm-b (m .«slp_typ_b») (typs .1),
       bit-0-back (m .«arb_dis»),
       flag-back (m .armed),
-      mod-eq-of-lt (state-small s (m .state) (f .six) (l .state)),
+      mod-eq-of-lt (lt-of-lt-of-le (state-small s (m .state) (f .six) (l .state)) (lit≤ tt)),
     )
     refl
