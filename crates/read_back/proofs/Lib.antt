@@ -1,3 +1,4 @@
 pub mod Fits
 pub mod Parts
+pub mod Marked
 pub mod Theorems

@@ -120,7 +120,7 @@ module _ (own own′ : ℕ) (s e s′ e′ : List ℕ) (h : own ≤ 8) (h′ : o
 -- ---- the whole text
 
 -- past a line and its LF
-past-line : (line rest : List ℕ) → drop (length line + 1) (line ++ (lf ∷ rest)) ≡ rest
+pub past-line : (line rest : List ℕ) → drop (length line + 1) (line ++ (lf ∷ rest)) ≡ rest
 past-line line rest =
     ap (drop (length line + 1)) (sym (append-assoc line (lf ∷ []) rest))
     ∙ drop-at (line ++ (lf ∷ [])) rest (length line + 1) (length-append line (lf ∷ []))

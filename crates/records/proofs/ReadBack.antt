@@ -40,7 +40,7 @@ command-form byte h =
 
 module _ (r : Row) (s : Sound r) (v : ℕ) (rest : List ℕ) where
   -- the digits stand past the name and the tab
-  digits-there : take (r .width) (drop (length (r .name) + 1) (recordText r v ++ rest)) ≡ digits 16 (r .width) (formed (r .form) v)
+  pub digits-there : take (r .width) (drop (length (r .name) + 1) (recordText r v ++ rest)) ≡ digits 16 (r .width) (formed (r .form) v)
   digits-there =
       let shown = digits 16 (r .width) (formed (r .form) v) in
       rw (append-assoc, ← drop-drop 1 (length (r .name)) (r .name ++ _), drop-at (r .name) _ (length (r .name)) refl, append-assoc)
@@ -57,7 +57,7 @@ module _ (r : Row) (s : Sound r) (v : ℕ) (rest : List ℕ) where
         go true f z = value-back (f refl)
         go false f z = sym (z refl)
 
-    in-past : drop (lengthIn edition r) (textIn edition r v ++ rest) ≡ rest
+    pub in-past : drop (lengthIn edition r) (textIn edition r v ++ rest) ≡ rest
     in-past = drop-at (textIn edition r v) rest (lengthIn edition r) (in-length edition r v)
 
 module _ (edition : ℕ) where
