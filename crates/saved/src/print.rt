@@ -20,6 +20,7 @@ ghost use Rattle.text.specs.Parts.{lf};
 ghost use Rattle.records.specs.Bytes.{bytesText};
 ghost use Rattle.records.specs.Records.{recordsText};
 ghost use Rattle.records.specs.Rows.{rows};
+ghost use Rattle.machine.specs.PowerOn.{gpeBytes};
 ghost use Rattle.saved.specs.Text.{editionLine, ownBytes, gpeText, recordsAt, gpeAt, writeAnswer, writtenBuffer};
 
 const LF: u8 = 10;
@@ -57,8 +58,8 @@ fn put_edition(buf: &mut [u8], edition: u64)
 }
 
 // A record of general event bytes: its name and a tab, the digits of the bytes that it has, and LF.
-fn put_bytes(buf: &mut [u8], at: usize, name: &[u8], own: usize, bytes: [u8; 8])
-    requires { ⌜ (own ≤ 8) × (at + length (now name) + 17 < 2 ^ 64) ⌝ }
+fn put_bytes(buf: &mut [u8], at: usize, name: &[u8], own: usize, bytes: [u8; GPE_BYTES])
+    requires { ⌜ (own ≤ gpeBytes) × (at + length (now name) + 17 < 2 ^ 64) ⌝ }
     ensures { λ _. ⌜ now (buf .exit) ≡ sets (now (buf .entry)) at (now (name .entry) ++ (bytesText (take own bytes) ++ (lf ∷ []))) ⌝ }
 {
     let digits = at + name.len();
@@ -73,12 +74,12 @@ fn put_gpe(
     at: usize,
     own0: usize,
     own1: usize,
-    gpe0_sts: [u8; 8],
-    gpe0_en: [u8; 8],
-    gpe1_sts: [u8; 8],
-    gpe1_en: [u8; 8],
+    gpe0_sts: [u8; GPE_BYTES],
+    gpe0_en: [u8; GPE_BYTES],
+    gpe1_sts: [u8; GPE_BYTES],
+    gpe1_en: [u8; GPE_BYTES],
 )
-    requires { ⌜ ((own0 ≤ 8) × (own1 ≤ 8)) × (at + 200 < 2 ^ 64) ⌝ }
+    requires { ⌜ ((own0 ≤ gpeBytes) × (own1 ≤ gpeBytes)) × (at + 200 < 2 ^ 64) ⌝ }
     ensures { λ _. ⌜ now (buf .exit) ≡ sets (now (buf .entry)) at (gpeText own0 own1 «gpe0_sts» «gpe0_en» «gpe1_sts» «gpe1_en») ⌝ }
 {
     let en0 = at + (10 + own0 * 2);
@@ -98,12 +99,12 @@ pub(crate) fn print(
     at: usize,
     own0: usize,
     own1: usize,
-    gpe0_sts: [u8; 8],
-    gpe0_en: [u8; 8],
-    gpe1_sts: [u8; 8],
-    gpe1_en: [u8; 8],
+    gpe0_sts: [u8; GPE_BYTES],
+    gpe0_en: [u8; GPE_BYTES],
+    gpe1_sts: [u8; GPE_BYTES],
+    gpe1_en: [u8; GPE_BYTES],
 )
-    requires { ⌜ (at ≡ gpeAt edition) × ((own0 ≤ 8) × (own1 ≤ 8)) ⌝ }
+    requires { ⌜ (at ≡ gpeAt edition) × ((own0 ≤ gpeBytes) × (own1 ≤ gpeBytes)) ⌝ }
     ensures { λ _. ⌜ now (buf .exit) ≡ sets (now (buf .entry)) 0 (editionLine edition ++ (lf ∷ (recordsText edition rows values ++ gpeText own0 own1 «gpe0_sts» «gpe0_en» «gpe1_sts» «gpe1_en»))) ⌝ }
 {
     put_edition(buf, edition);
@@ -116,12 +117,12 @@ pub(crate) fn text_length(
     at: usize,
     own0: usize,
     own1: usize,
-    gpe0_sts: [u8; 8],
-    gpe0_en: [u8; 8],
-    gpe1_sts: [u8; 8],
-    gpe1_en: [u8; 8],
+    gpe0_sts: [u8; GPE_BYTES],
+    gpe0_en: [u8; GPE_BYTES],
+    gpe1_sts: [u8; GPE_BYTES],
+    gpe1_en: [u8; GPE_BYTES],
 ) -> usize
-    requires { ⌜ ((own0 ≤ 8) × (own1 ≤ 8)) × (at + 200 < 2 ^ 64) ⌝ }
+    requires { ⌜ ((own0 ≤ gpeBytes) × (own1 ≤ gpeBytes)) × (at + 200 < 2 ^ 64) ⌝ }
     ensures { λ r. ⌜ r ≡ at + length (gpeText own0 own1 «gpe0_sts» «gpe0_en» «gpe1_sts» «gpe1_en») ⌝ }
 {
     at + (38 + (own0 * 4 + own1 * 4))

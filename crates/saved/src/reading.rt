@@ -7,6 +7,7 @@ use crate::print::print;
 use crate::print::records_at;
 use crate::print::text_length;
 use legality::Legality;
+use machine::GPE_BYTES;
 use machine::Machine;
 use machine::all_zero;
 use records::RECORDS;
@@ -105,10 +106,10 @@ fn judge_text(
     at: usize,
     own0: usize,
     own1: usize,
-    gpe0_sts: [u8; 8],
-    gpe0_en: [u8; 8],
-    gpe1_sts: [u8; 8],
-    gpe1_en: [u8; 8],
+    gpe0_sts: [u8; GPE_BYTES],
+    gpe0_en: [u8; GPE_BYTES],
+    gpe1_sts: [u8; GPE_BYTES],
+    gpe1_en: [u8; GPE_BYTES],
 ) -> ReadAnswer
     requires { ⌜ (at ≡ gpeAt edition) × ((own0 ≡ own0Of values) × (own1 ≡ own1Of values)) ⌝ }
     ensures { λ r. ⌜ r ≡ textAnswer (now (text .entry)) (textOf edition (parts values «gpe0_sts» «gpe0_en» «gpe1_sts» «gpe1_en»)) ⌝ }
@@ -183,10 +184,10 @@ fn read_parts(
     at: usize,
     own0: usize,
     own1: usize,
-    gpe0_sts: [u8; 8],
-    gpe0_en: [u8; 8],
-    gpe1_sts: [u8; 8],
-    gpe1_en: [u8; 8],
+    gpe0_sts: [u8; GPE_BYTES],
+    gpe0_en: [u8; GPE_BYTES],
+    gpe1_sts: [u8; GPE_BYTES],
+    gpe1_en: [u8; GPE_BYTES],
 ) -> ReadBack
     requires { ⌜ (at ≡ gpeAt edition) × ((own0 ≡ own0Of values) × (own1 ≡ own1Of values)) ⌝ }
     ensures { λ r. ⌜ r ≡ readParts edition (now (text .entry)) (parts values «gpe0_sts» «gpe0_en» «gpe1_sts» «gpe1_en») ⌝ }
