@@ -1,4 +1,7 @@
-// Says in one line what a session's table and script come to: what is wrong and where, or how many steps there are.
+// Says in one line what a session's table and script come to: what is wrong and where, or how many steps there are. Where there is no table but a saved
+// text, the file `state`: what that and the steps come to.
+mod clauses;
+mod state;
 mod words;
 
 use libc::STDIN_FILENO;
@@ -20,7 +23,7 @@ fn script_buffer() -> [u8; LIMIT + 1]
 fn main() {
     let file = os::open_read(b"platform.fadt");
     if file < 0 {
-        say(b"the file platform.fadt does not open\n");
+        without_table();
         return;
     }
     let mut table = io::large_buffer();
@@ -39,6 +42,24 @@ fn main() {
     tell(answer, source);
 }
 
+fn without_table() {
+    let file = os::open_read(b"state");
+    if file < 0 {
+        say(b"the file platform.fadt does not open\n");
+        return;
+    }
+    let mut text = script_buffer();
+    let text_length = io::read_full(file, &mut text);
+    libc::close(file);
+    let mut steps = script_buffer();
+    let steps_length = io::read_full(STDIN_FILENO, &mut steps);
+    if !at_end(steps_length) {
+        say(b"the steps cannot be read to their end\n");
+        return;
+    }
+    state::tell(&text[..text_length], &steps[..steps_length]);
+}
+
 // Whether nothing is left to read, after so many bytes; a script that fills its buffer is too long in any case.
 fn at_end(length: usize) -> bool {
     if LIMIT < length {
@@ -48,11 +69,11 @@ fn at_end(length: usize) -> bool {
     libc::read(STDIN_FILENO, &mut next) == 0
 }
 
-fn say(text: &[u8]) {
+pub(crate) fn say(text: &[u8]) {
     io::write_all(STDOUT_FILENO, text);
 }
 
-fn count(n: usize) {
+pub(crate) fn count(n: usize) {
     io::print_decimal(STDOUT_FILENO, n as u64);
 }
 
@@ -61,11 +82,10 @@ fn tell(answer: SessionAnswer, source: &[u8]) {
         SessionAnswer::Written(_) => all_is_well(source),
         SessionAnswer::NoRoom => all_is_well(source),
         SessionAnswer::PlatformLine => {
-            say(b"line 1 does not read: ");
             if passes_limit(source, 1) {
-                say(b"it passes byte 65,536\n");
+                unread(source, 1);
             } else {
-                say(b"it is no platform line\n");
+                say(b"line 1 does not read: it is no platform line\n");
             }
         }
         SessionAnswer::SetUp(refusal) => {
@@ -74,16 +94,19 @@ fn tell(answer: SessionAnswer, source: &[u8]) {
             say(b", ");
             words::refusal(refusal);
         }
-        SessionAnswer::Line(line) => {
-            say(b"line ");
-            count(line);
-            say(b" does not read");
-            if passes_limit(source, line) {
-                say(b": it passes byte 65,536");
-            }
-            say(b"\n");
-        }
+        SessionAnswer::Line(line) => unread(source, line),
     }
+}
+
+// A line that is no step, or that is too long.
+pub(crate) fn unread(source: &[u8], line: usize) {
+    say(b"line ");
+    count(line);
+    say(b" does not read");
+    if passes_limit(source, line) {
+        say(b": it passes byte 65,536");
+    }
+    say(b"\n");
 }
 
 // All lines but the platform line are steps.
