@@ -5,6 +5,7 @@
 
 mod ours;
 mod plain;
+mod saved;
 
 use std::hint::black_box;
 use std::process::{exit, Command};
@@ -23,6 +24,8 @@ enum Work {
     Steps(u32),
     SetUp,
     Session,
+    Write,
+    Read,
 }
 
 struct Row {
@@ -42,6 +45,7 @@ enum Side {
 
 struct Given {
     script: Vec<u8>,
+    text: Vec<u8>,
     buffer: Vec<u8>,
 }
 
@@ -52,6 +56,13 @@ fn rows(lines: usize) -> Vec<Row> {
         units,
         turns: 210_000,
         counted: 2100,
+    };
+    let text = |name, work| Row {
+        name,
+        work,
+        units: 1.0,
+        turns: 1_000,
+        counted: 1000,
     };
     vec![
         steps("status read", 0, 1.0),
@@ -75,6 +86,8 @@ fn rows(lines: usize) -> Vec<Row> {
             turns: 2,
             counted: 1,
         },
+        text("write a saved text", Work::Write),
+        text("read a saved text", Work::Read),
     ]
 }
 
@@ -102,7 +115,7 @@ fn script() -> Vec<u8> {
     script
 }
 
-/// The row's number for so many turns, and the listing where it gives one.
+/// The row's number for so many turns, and what the plain side wrote, where it writes.
 fn run(row: &Row, side: Side, turns: u64, given: &mut Given) -> (u64, Vec<u8>) {
     let (table, base, turns) = (black_box(TABLE), black_box(BASE), black_box(turns));
     match (&row.work, side) {
@@ -115,6 +128,13 @@ fn run(row: &Row, side: Side, turns: u64, given: &mut Given) -> (u64, Vec<u8>) {
             let (listing, sum) = plain::session(table, &given.script, turns);
             (sum, listing)
         }
+        (Work::Write, Side::Ours) => (ours::writes(&given.text, &mut given.buffer, turns), Vec::new()),
+        (Work::Write, Side::Plain) => {
+            let (text, sum) = plain::writes(&given.text, turns);
+            (sum, text)
+        }
+        (Work::Read, Side::Ours) => (ours::reads(&given.text, turns), Vec::new()),
+        (Work::Read, Side::Plain) => (plain::reads(&given.text, turns), Vec::new()),
     }
 }
 
@@ -125,12 +145,12 @@ fn timed(row: &Row, given: &mut Given) -> [f64; 2] {
         let mut results = [0, 0];
         for side in [Side::Ours, Side::Plain] {
             let start = Instant::now();
-            let (number, listing) = run(row, side, row.turns, given);
+            let (number, written) = run(row, side, row.turns, given);
             let spent = start.elapsed().as_nanos() as f64 / row.turns as f64;
             best[side as usize] = best[side as usize].min(spent);
             results[side as usize] = number;
-            if !listing.is_empty() && given.buffer[..listing.len()] != listing[..] {
-                eprintln!("{}: the two listings differ", row.name);
+            if given.buffer[..written.len()] != written[..] {
+                eprintln!("{}: what the two write differs", row.name);
                 exit(1);
             }
         }
@@ -168,6 +188,7 @@ fn main() {
     let rows = rows(lines);
     let mut given = Given {
         script,
+        text: plain::saved_text(TABLE),
         buffer: vec![0; ROOM],
     };
 

@@ -1,4 +1,5 @@
-//! The proved loops of `crates/speed_steps` and `crates/speed_session`, as `rt staticlib` exports them. A slice is its address and its length.
+//! The proved loops of `crates/speed_steps`, `crates/speed_session` and `crates/speed_saved`, as `rt staticlib` exports
+//! them. A slice is its address and its length.
 
 mod exported {
     extern "C" {
@@ -13,10 +14,12 @@ mod exported {
             buffer_len: usize,
             n: u64,
         ) -> u64;
+        pub fn speed_run_read(text: *const u8, text_len: usize, n: u64) -> u64;
+        pub fn speed_run_write(text: *const u8, text_len: usize, buffer: *mut u8, buffer_len: usize, n: u64) -> u64;
     }
 }
 
-// None of the three requires anything of its caller but slices that are there for the call.
+// None of them requires anything of its caller but slices that are there for the call.
 
 pub fn steps(table: &[u8], base: u64, row: u32, n: u64) -> u64 {
     unsafe { exported::speed_run_steps(table.as_ptr(), table.len(), base, row, n) }
@@ -38,4 +41,12 @@ pub fn session(table: &[u8], script: &[u8], buffer: &mut [u8], n: u64) -> u64 {
             n,
         )
     }
+}
+
+pub fn reads(text: &[u8], n: u64) -> u64 {
+    unsafe { exported::speed_run_read(text.as_ptr(), text.len(), n) }
+}
+
+pub fn writes(text: &[u8], buffer: &mut [u8], n: u64) -> u64 {
+    unsafe { exported::speed_run_write(text.as_ptr(), text.len(), buffer.as_mut_ptr(), buffer.len(), n) }
 }

@@ -1,5 +1,9 @@
-//! The same loops over the plain model of `tests/model`, step by step as in `crates/speed_steps/specs`.
+//! The same loops over the plain model of `tests/model`, step by step as in `crates/speed_steps/specs`; and over the
+//! saved text of `saved.rs`, as in `crates/speed_saved/specs`.
 
+use std::hint::black_box;
+
+use crate::saved;
 use model::{set_up as set_up_machine, Machine, Settings, Step};
 
 const STATES: [Option<(u8, u8)>; 6] = [Some((0, 0)), None, None, Some((5, 2)), None, Some((7, 0))];
@@ -114,6 +118,13 @@ impl Run {
     }
 }
 
+/// SCI_EN, PWRBTN_EN, RTC_EN and BM set.
+fn prepare(machine: &mut Machine) {
+    machine.status = 0x0010;
+    machine.enable = 0x0500;
+    machine.sci_en = true;
+}
+
 #[inline(never)]
 pub fn steps(table: &[u8], base: u64, row: u32, n: u64) -> u64 {
     let p = Ports {
@@ -125,9 +136,7 @@ pub fn steps(table: &[u8], base: u64, row: u32, n: u64) -> u64 {
     let Ok(mut machine) = set_up_machine(table, &settings(false)) else {
         return 0;
     };
-    machine.status = 0x0010;
-    machine.enable = 0x0500;
-    machine.sci_en = true;
+    prepare(&mut machine);
     let mut run = Run {
         machine,
         value: 0,
@@ -170,4 +179,43 @@ pub fn session(table: &[u8], script: &[u8], n: u64) -> (Vec<u8>, u64) {
         sum = sum.wrapping_add(last.len() as u64);
     }
     (last, sum)
+}
+
+/// The text that is read: the prepared machine's, with a counter.
+pub fn saved_text(table: &[u8]) -> Vec<u8> {
+    let Ok(mut machine) = set_up_machine(table, &settings(false)) else {
+        return Vec::new();
+    };
+    prepare(&mut machine);
+    machine.counter = 0x00AB_CDEF;
+    model::saved::write(&machine)
+}
+
+#[inline(never)]
+pub fn reads(text: &[u8], n: u64) -> u64 {
+    let mut sum: u64 = 0;
+    for _ in 0..n {
+        let (number, counter) = match saved::read(black_box(text)) {
+            Ok(machine) => (0, machine.counter),
+            Err(number) => (number, 0),
+        };
+        sum = sum.wrapping_add(number.into()).wrapping_add(counter.into());
+    }
+    sum
+}
+
+/// The last text, and the sum.
+#[inline(never)]
+pub fn writes(text: &[u8], n: u64) -> (Vec<u8>, u64) {
+    let mut buffer = [0; 1024];
+    let mut sum: u64 = 0;
+    let mut length = 0;
+    if let Ok(mut machine) = saved::read(text) {
+        for _ in 0..n {
+            machine.counter = sum as u32;
+            length = saved::write(&machine, &mut buffer).unwrap_or_default();
+            sum = sum.wrapping_add(length as u64);
+        }
+    }
+    (buffer[..length].to_vec(), sum)
 }

@@ -15,7 +15,7 @@ mod steps;
 mod ticks;
 
 pub use cells::*;
-pub use session::{read_script, session, set_up_answer, LIMIT};
+pub use session::{read_script, session, session_end, set_up_answer, LIMIT};
 pub use set_up::{set_up, Block, Hardware, Settings};
 pub use steps::Step;
 pub use ticks::HOLD_LIMIT;

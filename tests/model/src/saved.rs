@@ -12,6 +12,25 @@ pub const MALFORMED: u8 = 41;
 /// illegal setting or cell.
 pub const ILLEGAL: u8 = 42;
 
+/// What breaks each clause of W2's list after its settings.
+pub const CLAUSES: [&str; 15] = [
+    "a status bit that is not the register's",
+    "an enable bit that is not the register's",
+    "a control bit that is not the register's",
+    "a reserved bit of PM2",
+    "ARB_DIS without PM2",
+    "a state that is not there",
+    "a counter past its size",
+    "hold above its limit",
+    "hold at its limit outside S5 with the override",
+    "button down, not fitted",
+    "a command without SMI_CMD",
+    "SCI_EN clear without SMI_CMD",
+    "armed outside S0",
+    "armed without B control",
+    "B's SLP_TYP without B",
+];
+
 const SLP_TYP: u16 = 7 << 10;
 const ARB_DIS: u8 = 1;
 
@@ -74,7 +93,7 @@ pub fn write(machine: &Machine) -> Vec<u8> {
 }
 
 /// A control register as the guest reads it: SCI_EN and BM_RLD in their homes, and the block's own SLP_TYP.
-fn control(machine: &Machine, block: usize) -> u16 {
+pub fn control(machine: &Machine, block: usize) -> u16 {
     let home = machine.hardware.control_visible[block];
     let mut register = u16::from(machine.slp_typ[block]) << 10;
     if machine.sci_en {
@@ -98,49 +117,68 @@ fn gpe_digits(bytes: &[u8; 8], length: u32) -> String {
 
 /// The machine of an accepted text: one that is well formed and legal.
 pub fn read(text: &[u8]) -> Result<Machine, u8> {
+    records(text)?.machine()
+}
+
+fn records(text: &[u8]) -> Result<Records, u8> {
     // The first line ends before the first LF, or is the whole text.
     let mut parts = text.splitn(2, |byte| *byte == b'\n');
     if parts.next() != Some(b"edition\t1") {
         return Err(NO_EDITION);
     }
-    let records = Records::read(parts.next().ok_or(MALFORMED)?)?;
-    records.machine()
+    Records::read(parts.next().ok_or(MALFORMED)?)
+}
+
+/// What a well formed text breaks: the first of rules 5 to 12, or else all of `CLAUSES`.
+pub enum Broken {
+    Rule(u8),
+    Clauses(Vec<&'static str>),
+}
+
+pub fn broken(text: &[u8]) -> Option<Broken> {
+    let records = records(text).ok()?;
+    let hardware = match records.hardware() {
+        Ok(hardware) => hardware,
+        Err(rule) => return Some(Broken::Rule(rule)),
+    };
+    let kept = records.kept(&hardware);
+    Some(Broken::Clauses((0..CLAUSES.len()).filter(|clause| !kept[*clause]).map(|clause| CLAUSES[clause]).collect()))
 }
 
 /// What the records say, legal or not.
-struct Records {
-    smi_cmd: u64,
-    acpi_enable: u8,
-    acpi_disable: u8,
-    event_blk: [u64; 2],
-    control_blk: [u64; 2],
-    pm2_blk: u64,
-    timer_blk: u64,
-    gpe_blk: [u64; 2],
-    event_len: u8,
-    control_len: u8,
-    pm2_len: u8,
-    timer_len: u8,
-    gpe_len: [u8; 2],
-    gpe1_base: u8,
-    flags: u32,
-    event_homes: u16,
-    control_homes: u16,
-    power_override: bool,
-    states: [Option<(u8, u8)>; 6],
+pub struct Records {
+    pub smi_cmd: u64,
+    pub acpi_enable: u8,
+    pub acpi_disable: u8,
+    pub event_blk: [u64; 2],
+    pub control_blk: [u64; 2],
+    pub pm2_blk: u64,
+    pub timer_blk: u64,
+    pub gpe_blk: [u64; 2],
+    pub event_len: u8,
+    pub control_len: u8,
+    pub pm2_len: u8,
+    pub timer_len: u8,
+    pub gpe_len: [u8; 2],
+    pub gpe1_base: u8,
+    pub flags: u32,
+    pub event_homes: u16,
+    pub control_homes: u16,
+    pub power_override: bool,
+    pub states: [Option<(u8, u8)>; 6],
 
-    status: [u16; 2],
-    enable: [u16; 2],
-    control: [u16; 2],
-    pm2: u8,
-    counter: u32,
-    hold: u32,
-    button: bool,
-    command: Option<u8>,
-    release: bool,
-    armed: bool,
-    state: u8,
-    gpe: [Gpe; 2],
+    pub status: [u16; 2],
+    pub enable: [u16; 2],
+    pub control: [u16; 2],
+    pub pm2: u8,
+    pub counter: u32,
+    pub hold: u32,
+    pub button: bool,
+    pub command: Option<u8>,
+    pub release: bool,
+    pub armed: bool,
+    pub state: u8,
+    pub gpe: [Gpe; 2],
 }
 
 impl Records {
@@ -197,18 +235,9 @@ impl Records {
         Ok(records)
     }
 
-    fn machine(&self) -> Result<Machine, u8> {
-        let settings = Settings {
-            event_homes: self.event_homes,
-            control_homes: self.control_homes,
-            power_override: self.power_override,
-            states: self.states,
-        };
-        // "settings pass rules 5 to 12"
-        let fadt = self.fadt().ok_or(ILLEGAL)?;
-        rules_5_to_12(&fadt, &settings).map_err(|_| ILLEGAL)?;
-        let hardware = fadt.hardware(&settings);
-        if !self.cells_legal(&hardware) {
+    pub fn machine(&self) -> Result<Machine, u8> {
+        let hardware = self.hardware().map_err(|_| ILLEGAL)?;
+        if self.kept(&hardware).contains(&false) {
             return Err(ILLEGAL);
         }
         Ok(Machine {
@@ -230,7 +259,20 @@ impl Records {
         })
     }
 
-    /// Rule 7 for an address that a FADT's 32 bits do not hold: it passes port 65,535.
+    /// "settings pass rules 5 to 12", or the first that they break. Rule 7 where a FADT's 32 bits do not hold an address:
+    /// it passes port 65,535.
+    fn hardware(&self) -> Result<Hardware, u8> {
+        let settings = Settings {
+            event_homes: self.event_homes,
+            control_homes: self.control_homes,
+            power_override: self.power_override,
+            states: self.states,
+        };
+        let fadt = self.fadt().ok_or(7)?;
+        rules_5_to_12(&fadt, &settings)?;
+        Ok(fadt.hardware(&settings))
+    }
+
     fn fadt(&self) -> Option<Fadt> {
         let block = |address: u64, length: u8| {
             let start = u32::try_from(address).ok()?;
@@ -266,8 +308,8 @@ impl Records {
         ((self.control[block] & SLP_TYP) >> 10) as u8
     }
 
-    /// W2's list after its settings, in its order.
-    fn cells_legal(&self, hardware: &Hardware) -> bool {
+    /// W2's list after its settings, in the order of `CLAUSES`: whether each is kept.
+    fn kept(&self, hardware: &Hardware) -> [bool; CLAUSES.len()] {
         // "no unfitted or reserved bit, bit outside its home": a GPE record has just its block's bytes, and every bit
         // of these is fitted.
         let status = [A, B].iter().all(|block| self.status[*block] & !hardware.visible[*block] == 0);
@@ -278,7 +320,6 @@ impl Records {
         let pm2 = self.pm2 & !ARB_DIS == 0;
         // "or ARB_DIS without PM2"
         let arb_dis = self.pm2 & ARB_DIS == 0 || hardware.pm2.present();
-
         // "S0, S5 or a present state"
         let state = match self.state {
             0 | 5 => true,
@@ -287,29 +328,37 @@ impl Records {
         };
         // "counter below its size"
         let counter = u64::from(self.counter) < 1u64 << hardware.counter_bits;
-        // "hold at most 14,318,180, and below it outside S5 with the override fitted"
-        let hold = self.hold <= HOLD_LIMIT && (self.hold < HOLD_LIMIT || self.state == 5 || !hardware.power_override);
+        // "hold at most 14,318,180,
+        let hold = self.hold <= HOLD_LIMIT;
+        // and below it outside S5 with the override fitted"
+        let hold_outside_s5 = self.hold != HOLD_LIMIT || self.state == 5 || !hardware.power_override;
         // "button down only where fitted"
         let button = !self.button || hardware.fitted & PWRBTN != 0;
         // "no command, and SCI_EN set, without SMI_CMD"
-        let smi_cmd = hardware.smi_cmd.present() || (self.command.is_none() && self.sci_en());
+        let command = self.command.is_none() || hardware.smi_cmd.present();
+        let sci_en = self.sci_en() || hardware.smi_cmd.present();
         // "armed only in S0 with B control"
-        let armed = !self.armed || (self.state == 0 && hardware.control[B].present());
+        let armed_in_s0 = !self.armed || self.state == 0;
+        let armed_with_b = !self.armed || hardware.control[B].present();
         // "B's SLP_TYP zero without B"
         let slp_typ_b = self.slp_typ(B) == 0 || hardware.control[B].present();
-
-        status
-            && enable
-            && control
-            && pm2
-            && arb_dis
-            && state
-            && counter
-            && hold
-            && button
-            && smi_cmd
-            && armed
-            && slp_typ_b
+        [
+            status,
+            enable,
+            control,
+            pm2,
+            arb_dis,
+            state,
+            counter,
+            hold,
+            hold_outside_s5,
+            button,
+            command,
+            sci_en,
+            armed_in_s0,
+            armed_with_b,
+            slp_typ_b,
+        ]
     }
 }
 

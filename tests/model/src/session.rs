@@ -2,7 +2,7 @@
 
 use std::io::Write;
 
-use crate::{set_up, Settings, Step};
+use crate::{set_up, Machine, Settings, Step};
 
 /// No line past this byte of a script reads, and no more of a table is lent.
 pub const LIMIT: usize = 65_536;
@@ -19,6 +19,16 @@ pub fn session(table: &[u8], script: &[u8]) -> Option<Vec<u8>> {
         writeln!(listing, "{number}\t{answer}\t{value:08X}\t{sci}\t{smi}\tS{state}").ok()?;
     }
     Some(listing)
+}
+
+/// The machine at the session's end, where there is a listing.
+pub fn session_end(table: &[u8], script: &[u8]) -> Option<Machine> {
+    let (settings, steps) = read_script(script)?;
+    let mut machine = set_up(lent(table), &settings).ok()?;
+    for step in &steps {
+        machine.step(step);
+    }
+    Some(machine)
 }
 
 /// Setting up's number, 0 to 12, where the script reads.

@@ -2,15 +2,20 @@
 
 use std::collections::HashMap;
 
+use model::saved::{self, Broken, CLAUSES};
 use model::{
     read_script, set_up, set_up_answer, Gpe, Hardware, Machine, Step, A, B, GBL_RLS, HOLD_LIMIT, LIMIT, PCIEXP_WAKE,
     PWRBTN, RTC, SLPBTN, SLP_EN, TMR,
 };
 
+use crate::carried::Cut;
 use crate::damage::{SCRIPTS, TABLES};
 use crate::halves::{gap_step, moved, write_backs};
+use crate::records::{Saved, ABSENT, FLAGS, SLEEPS};
 use crate::sessions::{Kind, Session};
+use crate::states::STATES;
 use crate::text::{join, lines};
+use crate::texts::{Text, SWEPT};
 
 pub struct Coverage {
     pub rows: Vec<(String, u64)>,
@@ -18,6 +23,9 @@ pub struct Coverage {
     pub whole_sessions: u64,
     pub whole_steps: u64,
     pub steps: u64,
+    /// Saved texts that reading refuses, and that it accepts.
+    pub refused: u64,
+    pub accepted: u64,
 }
 
 /// Each step's word, and the answers it can get.
@@ -115,6 +123,31 @@ const OTHERS: &[&str] = &[
     "narrow tables",
 ];
 
+/// What the saved machines of the sessions have, at a cut or at the end.
+const SAVED: &[&str] = &[
+    "saved: before the first step",
+    "saved: after some of the steps",
+    "saved: after the last step",
+    "saved: resumed, and saved at the end",
+    "saved: armed",
+    "saved: button down",
+    "saved: button up, hold above 0",
+    "saved: hold at its limit",
+    "saved: a command waits",
+    "saved: release flag",
+    "saved: SCI_EN clear",
+    "saved: BM_RLD",
+    "saved: ARB_DIS",
+    "saved: counter above 24 bits",
+    "saved: status and enables at A",
+    "saved: status and enables at B",
+    "saved: status and enables of GPE0",
+    "saved: status and enables of GPE1",
+];
+
+/// The numbers of reading.
+const READING: [u8; 4] = [0, 40, 41, 42];
+
 impl Coverage {
     pub fn new() -> Coverage {
         let mut names: Vec<String> = Vec::new();
@@ -148,9 +181,19 @@ impl Coverage {
         names.extend(OTHERS.iter().map(|name| name.to_string()));
         names.extend(TABLES.iter().map(|table| format!("table: {}", table.name)));
         names.extend(SCRIPTS.iter().map(|script| format!("script: {}", script.name)));
+        names.extend((0..=5).map(|state| format!("saved: S{state}")));
+        names.extend(SAVED.iter().map(|name| name.to_string()));
+        names.extend(STATES.iter().map(|kind| format!("text: {}", kind.name)));
+        for answer in READING {
+            names.push(format!("reading {answer}"));
+            names.extend(SWEPT.iter().map(|name| format!("text: {name}: {answer}")));
+        }
+        names.extend((5..=12).map(|rule| format!("reading 42: rule {rule}")));
+        names.extend(CLAUSES.iter().map(|clause| format!("reading 42: {clause} and nothing else")));
+        names.extend(forms());
         let places = names.iter().cloned().enumerate().map(|(place, name)| (name, place)).collect();
         let rows = names.into_iter().map(|name| (name, 0)).collect();
-        Coverage { rows, places, whole_sessions: 0, whole_steps: 0, steps: 0 }
+        Coverage { rows, places, whole_sessions: 0, whole_steps: 0, steps: 0, refused: 0, accepted: 0 }
     }
 
     fn count(&mut self, name: &str) {
@@ -175,6 +218,8 @@ impl Coverage {
         self.whole_sessions += other.whole_sessions;
         self.whole_steps += other.whole_steps;
         self.steps += other.steps;
+        self.refused += other.refused;
+        self.accepted += other.accepted;
     }
 
     /// Counts a session; an error where the model does not see in it what it was made for.
@@ -182,7 +227,7 @@ impl Coverage {
         let script = read_script(&session.script);
         let answer = set_up_answer(&session.table, &session.script);
         match session.kind {
-            Kind::Whole => self.whole_sessions += 1,
+            Kind::Whole { .. } => self.whole_sessions += 1,
             Kind::Narrow => self.count("narrow tables"),
             Kind::Table { name, answer: expected } => {
                 self.count(&format!("table: {name}"));
@@ -213,7 +258,7 @@ impl Coverage {
             self.history(&mut history, &before, step, answer, value, &machine);
         }
         self.steps += steps.len() as u64;
-        if matches!(session.kind, Kind::Whole) {
+        if matches!(session.kind, Kind::Whole { .. }) {
             self.whole_steps += steps.len() as u64;
         }
         Ok(())
@@ -221,7 +266,7 @@ impl Coverage {
 
     /// Demand 3 on a whole session: checks it on the model, and gives the moved list's script.
     pub fn halves(&mut self, session: &Session) -> Result<Option<Vec<u8>>, String> {
-        if !matches!(session.kind, Kind::Whole) {
+        if !matches!(session.kind, Kind::Whole { .. }) {
             return Ok(None);
         }
         let (settings, steps) = read_script(&session.script).ok_or("a whole script reads")?;
@@ -232,6 +277,63 @@ impl Coverage {
         self.add_to("split: gap steps moved after", moved.after);
         self.add_to("split: raised bits kept by a write-back", write_backs(&machine, &steps)?);
         Ok((moved.steps != steps).then(|| join(&lines(&settings, &moved.steps))))
+    }
+
+    /// Counts the machine that is saved at a cut.
+    pub fn cut(&mut self, cut: &Cut) {
+        match cut.at {
+            0 => self.count("saved: before the first step"),
+            at if at == cut.steps => self.count("saved: after the last step"),
+            _ => self.count("saved: after some of the steps"),
+        }
+        self.count_if(cut.saved_again(), "saved: resumed, and saved at the end");
+        let machine = &cut.machine;
+        self.count(&format!("saved: S{}", machine.state));
+        self.count_if(machine.armed, "saved: armed");
+        self.count_if(machine.down, "saved: button down");
+        self.count_if(!machine.down && machine.hold > 0, "saved: button up, hold above 0");
+        self.count_if(machine.hold == HOLD_LIMIT, "saved: hold at its limit");
+        self.count_if(machine.command.is_some(), "saved: a command waits");
+        self.count_if(machine.release, "saved: release flag");
+        self.count_if(!machine.sci_en, "saved: SCI_EN clear");
+        self.count_if(machine.bm_rld, "saved: BM_RLD");
+        self.count_if(machine.arb_dis, "saved: ARB_DIS");
+        self.count_if(machine.counter >> 24 != 0, "saved: counter above 24 bits");
+        let visible = machine.hardware.visible;
+        let both = |block: usize| machine.status & visible[block] != 0 && machine.enable & visible[block] != 0;
+        self.count_if(both(A), "saved: status and enables at A");
+        self.count_if(both(B), "saved: status and enables at B");
+        let both = |gpe: &Gpe| gpe.status != [0; 8] && gpe.enable != [0; 8];
+        self.count_if(both(&machine.gpe[0]), "saved: status and enables of GPE0");
+        self.count_if(both(&machine.gpe[1]), "saved: status and enables of GPE1");
+    }
+
+    /// Counts a saved text; an error where the model does not answer what its kind says.
+    pub fn text(&mut self, text: &Text) -> Result<(), String> {
+        let answer = saved::read(&text.bytes).err().unwrap_or(0);
+        if text.answer.is_some_and(|expected| expected != answer) {
+            return Err(format!("text: {}: the model answers {answer}, against its row", text.name));
+        }
+        self.count(&format!("reading {answer}"));
+        if SWEPT.contains(&text.name) {
+            self.count(&format!("text: {}: {answer}", text.name));
+        } else {
+            self.count(&format!("text: {}", text.name));
+        }
+        if answer == 0 {
+            self.accepted += 1;
+            accepted_forms(&text.bytes).iter().for_each(|form| self.count(form));
+        } else {
+            self.refused += 1;
+        }
+        match saved::broken(&text.bytes) {
+            Some(Broken::Rule(rule)) => self.count(&format!("reading 42: rule {rule}")),
+            Some(Broken::Clauses(clauses)) if clauses.len() == 1 => {
+                self.count(&format!("reading 42: {} and nothing else", clauses[0]));
+            }
+            _ => {}
+        }
+        Ok(())
     }
 
     fn step(&mut self, before: &Machine, step: &Step, answer: u8, after: &Machine) {
@@ -450,6 +552,41 @@ impl Coverage {
         seen.gap = 0;
         seen.alarm = false;
     }
+}
+
+/// The forms that an accepted value can have, a row each.
+fn forms() -> Vec<String> {
+    let mut forms = Vec::new();
+    for name in FLAGS {
+        forms.extend(["0", "1"].map(|value| format!("accepted: {name} {value}")));
+    }
+    for name in SLEEPS {
+        forms.extend(["absent", "a pair"].map(|form| format!("accepted: {name} {form}")));
+    }
+    forms.extend(["none", "a byte"].map(|form| format!("accepted: COMMAND {form}")));
+    forms.extend((0..=5).map(|state| format!("accepted: STATE {state}")));
+    for block in [0, 1] {
+        forms.extend((0..=8).map(|bytes| format!("accepted: GPE{block} of {bytes} bytes")));
+    }
+    forms
+}
+
+/// Those of `forms` that an accepted text has.
+fn accepted_forms(text: &[u8]) -> Vec<String> {
+    let saved = Saved::of(text);
+    let mut forms: Vec<String> =
+        FLAGS.iter().chain(&["STATE"]).map(|name| format!("accepted: {name} {}", saved.value(name))).collect();
+    for name in SLEEPS {
+        let form = if saved.get(name) == ABSENT { "absent" } else { "a pair" };
+        forms.push(format!("accepted: {name} {form}"));
+    }
+    let form = if saved.get("COMMAND") == 0 { "none" } else { "a byte" };
+    forms.push(format!("accepted: COMMAND {form}"));
+    for block in [0, 1] {
+        let digits = saved.value(&format!("GPE{block}_STS")).len();
+        forms.push(format!("accepted: GPE{block} of {} bytes", digits / 2));
+    }
+    forms
 }
 
 #[derive(Default)]

@@ -1,5 +1,8 @@
-//! Compares bench with the model: random sessions, the examples, and the model's faults. Run by `tests/compare`.
+//! Compares the built programs with the model: random sessions, saved texts, the examples, and the model's faults. Run by
+//! `tests/compare`.
 
+mod carried;
+mod cases;
 mod coverage;
 mod damage;
 mod faults;
@@ -14,6 +17,7 @@ mod states;
 mod states_tests;
 mod steps;
 mod text;
+mod texts;
 
 use std::fs;
 use std::path::{Path, PathBuf};
@@ -21,25 +25,30 @@ use std::process::ExitCode;
 use std::sync::atomic::{AtomicU64, Ordering};
 use std::sync::Mutex;
 
+use carried::Cut;
+use cases::{Case, SEEDS};
 use coverage::Coverage;
-use programs::{Outcome, Programs};
+use programs::{same, Outcome, Programs, Reading};
 use sessions::Session;
+use texts::{Text, Texts};
 
-/// The sessions of a run: seeds 1 to this; two of three are whole.
-const SEEDS: u64 = 9_000;
 const WORKERS: usize = 2;
 
-const USAGE: &str = "usage: tests/compare             random sessions and the examples, bench against the model
+const USAGE: &str =
+    "usage: tests/compare             random sessions, saved texts and the examples, the programs against the model
        tests/compare --seed N    one session, and its folder
-       tests/compare --faults    each fault of tests/FAULTS.md is found by its seed
-       tests/compare --find      the first seed that finds each fault
+       tests/compare --text N    one saved text, and its folder
+       tests/compare --faults    each fault of tests/FAULTS.md is found by its seed or text
+       tests/compare --find      the first seed or text that finds each fault
        tests/compare --states SEED N [FOLDER]
-                                 N saved texts, damaged or not, and what the model answers to each";
+                                 N saved texts, damaged or not, and what the model answers to each
+BENCH names another bench than target/bin/bench; why, save and resume stand beside it.";
 
-/// The project's folder, the programs, and a temporary folder for each worker.
+/// The project's folder, the programs, a run's saved texts, and a temporary folder for each worker.
 pub struct Places {
     pub root: PathBuf,
     pub programs: Programs,
+    pub texts: Texts,
     pub work: PathBuf,
 }
 
@@ -52,15 +61,16 @@ fn main() -> ExitCode {
     let places = Places {
         root: PathBuf::from(root),
         programs: Programs::of(Path::new(root)),
+        texts: Texts::new(),
         work: std::env::temp_dir().join(format!("compare-{}", std::process::id())),
     };
     let run: fn(&Places) -> Result<(), String> = match words {
         [] => compare,
         ["--faults"] => faults::check,
         ["--find"] => faults::find,
-        ["--seed", seed] => match seed.parse() {
-            Ok(seed) => return end(places.programs.present().and_then(|()| one_seed(&places, seed))),
-            Err(_) => return usage(),
+        [word @ ("--seed" | "--text"), number] => match Case::read(&format!("{} {number}", &word[2..])) {
+            Some(case) => return end(places.programs.present().and_then(|()| again(&places, case))),
+            None => return usage(),
         },
         ["--states", seed, count, folder @ ..] if folder.len() < 2 => match (seed.parse(), count.parse()) {
             (Ok(seed), Ok(count)) => return end(states::print(seed, count, folder.first().map(Path::new))),
@@ -112,11 +122,13 @@ pub fn in_parallel<T: Send>(last: u64, make: impl Fn(usize) -> T + Sync, work: i
 }
 
 fn compare(places: &Places) -> Result<(), String> {
+    let cases = Case::all(&places.texts);
     let differences = Mutex::new(Vec::new());
     let make = |worker: usize| (places.work.join(worker.to_string()), Coverage::new());
-    let workers = in_parallel(SEEDS, make, |(folder, coverage), seed| {
-        if let Err(reason) = one_session(places, folder, coverage, &Session::of(seed)) {
-            differences.lock().expect("no worker fails").push((seed, reason));
+    let workers = in_parallel(cases.len() as u64, make, |(folder, coverage), number| {
+        let case = cases[number as usize - 1];
+        if let Err(reason) = one_case(places, folder, coverage, case) {
+            differences.lock().expect("no worker fails").push((case, reason));
         }
     });
     let mut coverage = Coverage::new();
@@ -130,8 +142,8 @@ fn compare(places: &Places) -> Result<(), String> {
 
     let mut differences = differences.into_inner().expect("no worker fails");
     differences.sort();
-    for (seed, reason) in differences.iter().take(10) {
-        println!("seed {seed}: {reason}\n    again: tests/compare --seed {seed}");
+    for (case, reason) in differences.iter().take(10) {
+        println!("{case}: {reason}\n    again: tests/compare --{case}");
     }
     let examples = examples(places)?;
     let missing: Vec<&str> = coverage.rows.iter().filter(|row| row.1 == 0).map(|row| row.0.as_str()).collect();
@@ -139,15 +151,18 @@ fn compare(places: &Places) -> Result<(), String> {
         println!("not reached: {name}");
     }
     println!(
-        "{examples} examples; {} whole sessions with a mean of {} steps, {} with damage or at a limit",
+        "{examples} examples; {} whole sessions with a mean of {} steps, each cut, saved and resumed; {} with damage or at a \
+         limit",
         grouped(coverage.whole_sessions),
         coverage.whole_steps / coverage.whole_sessions.max(1),
         grouped(SEEDS - coverage.whole_sessions),
     );
+    println!("{} saved texts refused, {} accepted", grouped(coverage.refused), grouped(coverage.accepted));
     let count = format!(
-        "{} sessions, {} steps, {} differences",
+        "{} sessions, {} steps, {} saved texts, {} differences",
         grouped(SEEDS),
         grouped(coverage.steps),
+        grouped(places.texts.count()),
         grouped(differences.len() as u64)
     );
     if !differences.is_empty() || !missing.is_empty() {
@@ -157,21 +172,47 @@ fn compare(places: &Places) -> Result<(), String> {
     Ok(())
 }
 
-/// Bench prints what the model does, for the session and for its moved list.
+fn one_case(places: &Places, folder: &Path, coverage: &mut Coverage, case: Case) -> Result<(), String> {
+    match case {
+        Case::Seed(seed) => one_session(places, folder, coverage, &Session::of(seed)),
+        Case::Text(number) => one_text(places, &folder.join("text"), coverage, &places.texts.text(number)),
+    }
+}
+
+/// The programs print what the model does, for the session, for its moved list, and over its cut.
 fn one_session(places: &Places, folder: &Path, coverage: &mut Coverage, session: &Session) -> Result<(), String> {
     coverage.session(session)?;
-    let same = |script: &[u8]| {
-        let got = places.programs.bench(folder, &session.table, script)?;
-        Outcome::of_model(&session.table, script).same_as(&got)
-    };
-    same(&session.script)?;
-    match coverage.halves(session)? {
-        Some(moved) => same(&moved).map_err(|reason| format!("moved list: {reason}")),
+    let expected = Outcome::of_model(&session.table, &session.script);
+    expected.same_as(&places.programs.outcome(folder, &session.table, &session.script)?)?;
+    if let Some(moved) = coverage.halves(session)? {
+        let expected = model::session(&session.table, &moved).unwrap_or_default();
+        same("moved list", &expected, &places.programs.listing(folder, &session.table, &moved)?)?;
+    }
+    match Cut::of(session) {
+        Some(cut) => {
+            coverage.cut(&cut);
+            cut.check(&places.programs, folder, &session.table, &expected)
+        }
         None => Ok(()),
     }
 }
 
-/// Every folder of examples/: its listing is what bench prints, and the model.
+/// Reading answers the model's number, an accepted text is written again as it was, and a refused one gives nothing.
+fn one_text(places: &Places, folder: &Path, coverage: &mut Coverage, text: &Text) -> Result<(), String> {
+    coverage.text(text)?;
+    let expected = Reading::of_model(&text.bytes);
+    expected.same_as(&places.programs.read_back(folder, &text.bytes)?)?;
+    if expected.answer == Some(0) {
+        return same("written again", &text.bytes, &expected.again);
+    }
+    if text.first {
+        same("resumed", b"", &places.programs.resume(folder, &text.bytes, b"")?)?;
+        same("resumed and saved", b"", &places.programs.resume_save(folder, &text.bytes, b"")?)?;
+    }
+    Ok(())
+}
+
+/// Every folder of examples/: its listing is what the model prints, and bench.
 fn examples(places: &Places) -> Result<usize, String> {
     let folder = places.root.join("examples");
     let entries = fs::read_dir(&folder).map_err(|error| format!("{}: {error}", folder.display()))?;
@@ -181,11 +222,11 @@ fn examples(places: &Places) -> Result<usize, String> {
         let file =
             |name: &str| fs::read(folder.join(name)).map_err(|error| format!("{}/{name}: {error}", folder.display()));
         let (table, script) = (file("platform.fadt")?, file("script")?);
-        let stored = Outcome { listing: file("listing")?, set_up: Some(0) };
-        let by = |program: &str, reason: String| format!("{}: {program}: {reason}", folder.display());
-        let got = places.programs.bench(&places.work.join("0"), &table, &script)?;
-        stored.same_as(&got).map_err(|reason| by("bench", reason))?;
-        stored.same_as(&Outcome::of_model(&table, &script)).map_err(|reason| by("model", reason))?;
+        let by = |reason: String| format!("{}: {reason}", folder.display());
+        let expected = Outcome::of_model(&table, &script);
+        same("listing of the model", &file("listing")?, &expected.listing).map_err(by)?;
+        let got = places.programs.outcome(&places.work.join("0"), &table, &script)?;
+        expected.same_as(&got).map_err(by)?;
     }
     if folders.is_empty() {
         return Err(format!("{}: no example", folder.display()));
@@ -193,7 +234,19 @@ fn examples(places: &Places) -> Result<usize, String> {
     Ok(folders.len())
 }
 
-/// One session, left in a folder with both listings; and its moved list beside.
+fn again(places: &Places, case: Case) -> Result<(), String> {
+    let result = match case {
+        Case::Seed(seed) => one_seed(places, seed),
+        Case::Text(number) if (1..=places.texts.count()).contains(&number) => text_again(places, number),
+        Case::Text(_) => Err(format!("there are {} texts", places.texts.count())),
+    };
+    result.map_err(|reason| format!("{case}: {reason}"))?;
+    println!("compare: {case}, 0 differences");
+    Ok(())
+}
+
+/// One session, left in a folder with both listings and saved texts; its moved list and what stands on both sides of the
+/// cut beside.
 fn one_seed(places: &Places, seed: u64) -> Result<(), String> {
     let session = Session::of(seed);
     let folder = places.root.join(format!("target/tests/seed-{seed}"));
@@ -203,19 +256,43 @@ fn one_seed(places: &Places, seed: u64) -> Result<(), String> {
     if let Ok(Some(moved)) = &halves {
         scripts.push((folder.join("moved"), moved.clone()));
     }
+    let cut = Cut::of(&session);
+    if let Some(cut) = &cut {
+        scripts.push((folder.join("first"), cut.first.clone()));
+    }
     let mut result = coverage.session(&session).and(halves.map(|_| ()));
     for (folder, script) in &scripts {
         let expected = Outcome::of_model(&session.table, script);
-        let got = places.programs.bench(folder, &session.table, script)?;
+        let got = places.programs.outcome(folder, &session.table, script)?;
         for (name, outcome) in [("expected", &expected), ("got", &got)] {
-            fs::write(folder.join(name), &outcome.listing).map_err(|error| error.to_string())?;
+            leave(folder, name, &outcome.listing)?;
+            leave(folder, &format!("{name}.saved"), &outcome.end)?;
         }
-        println!("{}: platform.fadt, script, expected (the model's listing), got (bench's)", folder.display());
+        println!(
+            "{}: platform.fadt, script; expected (the model's), got (the programs'), both saved",
+            folder.display()
+        );
         result = result.and(expected.same_as(&got));
     }
-    result.map_err(|reason| format!("seed {seed}: {reason}"))?;
-    println!("compare: seed {seed}, 0 differences");
-    Ok(())
+    if let Some(cut) = &cut {
+        let uncut = Outcome::of_model(&session.table, &session.script);
+        result = result.and(cut.check(&places.programs, &folder, &session.table, &uncut));
+        println!("{}: state (saved after step {}), script (the steps left)", folder.join("rest").display(), cut.at);
+    }
+    result
+}
+
+/// One saved text, left in a folder.
+fn text_again(places: &Places, number: u64) -> Result<(), String> {
+    let text = places.texts.text(number);
+    let folder = places.root.join(format!("target/tests/text-{number}"));
+    let result = one_text(places, &folder, &mut Coverage::new(), &text);
+    println!("{}: state ({})", folder.display(), text.name);
+    result
+}
+
+fn leave(folder: &Path, name: &str, bytes: &[u8]) -> Result<(), String> {
+    fs::write(folder.join(name), bytes).map_err(|error| error.to_string())
 }
 
 /// 12345 as 12,345.

@@ -15,8 +15,8 @@ pub struct Session {
 }
 
 pub enum Kind {
-    /// Some 300 steps on a platform that setting up accepts.
-    Whole,
+    /// Some 300 steps on a platform that setting up accepts; it is cut after so many of them.
+    Whole { cut: usize },
     /// A row of `TABLES`; the number is setting up's answer, known where nothing else is damaged.
     Table { name: &'static str, answer: Option<u8> },
     /// A table with few different numbers, so that its blocks meet and fail in many ways.
@@ -43,8 +43,14 @@ fn whole(random: &mut Random) -> Session {
     let table = platform.table(random);
     let length = 180 + random.below(200) as usize;
     let machine = set_up(&table, &platform.settings).expect("a whole platform");
-    let lines = lines(&platform.settings, &steps(random, machine, length));
-    Session { kind: Kind::Whole, table, script: join(&lines) }
+    let steps = steps(random, machine, length);
+    let cut = match random.below(20) {
+        0 => 0,
+        1 => steps.len(),
+        _ => random.below(steps.len() as u64 + 1) as usize,
+    };
+    let lines = lines(&platform.settings, &steps);
+    Session { kind: Kind::Whole { cut }, table, script: join(&lines) }
 }
 
 /// A few steps where setting up accepts; the platform line and a firmware step where it does not.
