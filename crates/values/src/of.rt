@@ -128,14 +128,18 @@ fn machine_values(m: Machine) -> [u64; 14]
 }
 
 // Value i of the two lists, one after the other.
-fn value_at(first: [u64; 28], then: [u64; 14], i: usize) -> u64
-    ensures { λ r. ⌜ r ≡ getD (first ++ then) i 0 ⌝ }
+fn value_at(first: &[u64], then: &[u64], i: usize) -> u64
+    ensures { λ r. ⌜ r ≡ getD (now (first .entry) ++ now (then .entry)) i 0 ⌝ }
 {
-    if i < 28 {
+    let n = first.len();
+    if i < n {
         return first[i];
     }
-    let j = i - 28;
-    if j < 14 { then[j] } else { 0 }
+    let j = i - n;
+    if j < then.len() {
+        return then[j];
+    }
+    0
 }
 
 fn joined(first: [u64; 28], then: [u64; 14]) -> [u64; crate::VALUES]
@@ -144,7 +148,7 @@ fn joined(first: [u64; 28], then: [u64; 14]) -> [u64; crate::VALUES]
     let mut all = [0u64; crate::VALUES];
     let mut i = 0;
     while i < crate::VALUES {
-        all[i] = value_at(first, then, i);
+        all[i] = value_at(&first, &then, i);
         i += 1;
     }
     all

@@ -19,6 +19,12 @@ abbrev μ-loop : tie.MeasureT-loop
 loop-holds : tie.Need-loop-holds Inv-loop μ-loop
 loop-holds c = (refl, refl)
 
+slice-aggregate-value-at : tie.Need-slice-aggregate-value-at Inv-loop μ-loop
+slice-aggregate-value-at c = search needs
+
+slice-aggregate-value-at-2 : tie.Need-slice-aggregate-value-at-2 Inv-loop μ-loop
+slice-aggregate-value-at-2 c = search needs
+
 value-at-requires : tie.Need-value-at-requires Inv-loop μ-loop
 value-at-requires c κs = search needs
 
@@ -36,18 +42,18 @@ loop-less c = omega arith
 
 loop-again : tie.Need-loop-again Inv-loop μ-loop
 loop-again c =
-    let at : _ = c .before .before in
-    let both : _ = at .before .args .first ++ at .before .args .then in
+    let at : _ = c .before .before .before .before in
+    let both : _ = at .before .args .t1 ++ at .before .args .t2 in
     let h : at .loop .i < length (at .loop .all) = omega arith in
-    let k : at .loop .i < length both = omega (arith, length-append (at .before .args .first) (at .before .args .then)) in
+    let k : at .loop .i < length both = omega (arith, length-append (at .before .args .t1) (at .before .args .t2)) in
     (rw (c .value-at .ensures) (fill-turn (at .loop .all) both (at .loop .i) h k ∙ at .loop .inv .0), rw length-set (at .loop .inv .1))
 
 returns : tie.Need-returns Inv-loop μ-loop
 returns c =
     let at : _ = c .before in
-    let both : _ = at .before .args .first ++ at .before .args .then in
+    let both : _ = at .before .args .t1 ++ at .before .args .t2 in
     let h : length (at .loop .all) ≤ at .loop .i = omega arith in
-    let k : length both ≤ at .loop .i = omega (arith, length-append (at .before .args .first) (at .before .args .then)) in
+    let k : length both ≤ at .loop .i = omega (arith, length-append (at .before .args .t1) (at .before .args .t2)) in
     sym (fill-end (at .loop .all) both (at .loop .i) h k) ∙ at .loop .inv .0
 
 pub joined-spec : {M : Type 1} → statement M
@@ -57,6 +63,8 @@ joined-spec =
     Inv-loop
     μ-loop
     loop-holds
+    slice-aggregate-value-at
+    slice-aggregate-value-at-2
     value-at-requires
     mul-all
     array-write-all
