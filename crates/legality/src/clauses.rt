@@ -11,7 +11,7 @@ use platform::Block;
 use platform::SetUpAnswer;
 use platform::is_present;
 use registers::has_pm1b_cnt;
-ghost use mathlib.Core.Bool.{false, true, not, _&&_, _||_};
+ghost use mathlib.Core.Bool.{false, true, not, cond, _&&_, _||_};
 ghost use mathlib.Core.Path.{_≡_};
 ghost use lib.Dec.{eqb, ltb};
 ghost use lib.ListN.{getD, drop};
@@ -19,6 +19,7 @@ ghost use Rattle.lists.specs.Any.{any};
 ghost use Rattle.sleep.specs.Pairs.{absent};
 ghost use Rattle.platform.specs.Legal.{strayLength};
 ghost use Rattle.model.specs.Legal.{onlyIf, absentPair, statusLegal, enablesLegal, bytesLegal, gpeLegal, arbDisLegal, stateLegal, counterLegal, holdLegal, buttonLegal, commandLegal, armedLegal, slpTypBLegal, slpTypsLegal};
+ghost use Rattle.legality.specs.declared.Legality.the-variants as legality;
 ghost use Rattle.legality.specs.Legality.{oneValue, afterSettings, legalityOf};
 
 fn status_legal(m: Machine) -> bool
@@ -190,47 +191,29 @@ fn one_value(m: Machine) -> bool
         & slp_typs_legal(m)
 }
 
-// The clauses after the settings'.
+// A clause, and those after it.
+fn unless(kept: bool, clause: Clause, rest: Legality) -> Legality
+    ensures { λ r. ⌜ r ≡ cond (not kept) (legality.Breaks clause) rest ⌝ }
+{
+    if kept { rest } else { Legality::Breaks(clause) }
+}
+
+// The clauses after the settings', the last one first.
 fn after_settings(m: Machine) -> Legality
     ensures { λ r. ⌜ r ≡ afterSettings m ⌝ }
 {
-    if !status_legal(m) {
-        return Legality::Breaks(Clause::Status);
-    }
-    if !enables_legal(m) {
-        return Legality::Breaks(Clause::Enables);
-    }
-    if !gpe_legal(m) {
-        return Legality::Breaks(Clause::GeneralEvents);
-    }
-    if !arb_dis_legal(m) {
-        return Legality::Breaks(Clause::ArbDis);
-    }
-    if !state_legal(m) {
-        return Legality::Breaks(Clause::State);
-    }
-    if !counter_legal(m) {
-        return Legality::Breaks(Clause::Counter);
-    }
-    if !hold_legal(m) {
-        return Legality::Breaks(Clause::Hold);
-    }
-    if !button_legal(m) {
-        return Legality::Breaks(Clause::Button);
-    }
-    if !command_legal(m) {
-        return Legality::Breaks(Clause::Command);
-    }
-    if !armed_legal(m) {
-        return Legality::Breaks(Clause::Armed);
-    }
-    if !slp_typ_b_legal(m) {
-        return Legality::Breaks(Clause::SlpTypB);
-    }
-    if !one_value(m) {
-        return Legality::Breaks(Clause::OneValue);
-    }
-    Legality::Legal
+    let all = unless(one_value(m), Clause::OneValue, Legality::Legal);
+    let all = unless(slp_typ_b_legal(m), Clause::SlpTypB, all);
+    let all = unless(armed_legal(m), Clause::Armed, all);
+    let all = unless(command_legal(m), Clause::Command, all);
+    let all = unless(button_legal(m), Clause::Button, all);
+    let all = unless(hold_legal(m), Clause::Hold, all);
+    let all = unless(counter_legal(m), Clause::Counter, all);
+    let all = unless(state_legal(m), Clause::State, all);
+    let all = unless(arb_dis_legal(m), Clause::ArbDis, all);
+    let all = unless(gpe_legal(m), Clause::GeneralEvents, all);
+    let all = unless(enables_legal(m), Clause::Enables, all);
+    unless(status_legal(m), Clause::Status, all)
 }
 
 // The first clause of the list that the machine breaks.
