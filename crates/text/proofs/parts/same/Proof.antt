@@ -1,10 +1,11 @@
 -- `text::parts::same` meets its contract. The loop's invariant: what came before is alike and what is left is the same, exactly if the whole is.
 -- Assumes nothing.
 use mathlib.Core.Bool.{_&&_, and-assoc, and-true}
-use mathlib.Core.Path.{_≡_, refl, sym, _∙_}
+use mathlib.Core.Path.{_≡_, refl, sym, _∙_, ap}
 use Prim.Native.Nat.{_-_, _≤_, _<_}
 use native.Mathlib.Omega.{arith}
-use lib.ListN.{length, drop}
+use lib.Dec.{eqb}
+use lib.ListN.{length, getD, drop}
 use Rattle.text.specs.Parts.{sameText}
 use Rattle.text.proofs.Equal.{same-turn, same-end, same-lengths}
 use Rattle.text.proofs.parts.same.Statement.{statement}
@@ -40,7 +41,9 @@ loop-again c =
     let start : _ = at .before .before in
     let h : at .loop .i < length (start .args .a .now) = omega arith in
     let k : at .loop .i < length (start .args .b .now) = omega arith in
-    rw (and-assoc, ← same-turn (start .args .a .now) (start .args .b .now) (at .loop .i) h k) (at .loop .inv)
+    and-assoc (at .loop .alike) (eqb (getD (start .args .a .now) (at .loop .i) 0) (getD (start .args .b .now) (at .loop .i) 0)) _
+    ∙ ap (λ t. at .loop .alike && t) (sym (same-turn (start .args .a .now) (start .args .b .now) (at .loop .i) h k))
+    ∙ at .loop .inv
 
 returns-2 : tie.Need-returns-2 Inv-loop μ-loop
 returns-2 c =
