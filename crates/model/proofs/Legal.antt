@@ -53,7 +53,7 @@ pub only-of : (a b : Bool) → (a ≡ true → b ≡ true) → onlyIf a b ≡ tr
 only-of true b h = h refl
 only-of false b h = refl
 
-parts : (a b : Bool) → (a && b) ≡ true → (a ≡ true) × (b ≡ true)
+pub parts : (a b : Bool) → (a && b) ≡ true → (a ≡ true) × (b ≡ true)
 parts a b e = (and-left a b e, and-right a b e)
 
 -- ---- the PM1 cells

@@ -21,8 +21,7 @@ use Rattle.legality.specs.declared.Legality.{Legality}
 use Rattle.legality.specs.declared.Legality.the-variants as legality
 use Rattle.legality.proofs.Laws.{listed-exactly}
 use Rattle.values.specs.Agree.{agreeing}
-use Rattle.values.specs.Values.{valuesOf, sameValues, valuesAgree}
-use Rattle.values.proofs.Agree.{same-equal as values-equal, same-self as values-self}
+use Rattle.values.specs.Values.{valuesOf, valuesAgree}
 use Rattle.values.proofs.Fits.{read-fits}
 use Rattle.values.proofs.RoundTrip.{machine-back}
 use Rattle.split_access.specs.Claims.{MovesFrom}
@@ -44,8 +43,8 @@ legal-exactly p =
     rw (read-fits (p .values) (p .gpe0-sts) (p .gpe0-en) (p .gpe1-sts) (p .gpe1-en), and-true) (listed-exactly (machineOf p))
 
 -- the judgement of a machine, and of its values
-done-legal : (m : Machine) (vs : List ℕ) → isDone (legalAnswer m vs) ≡ (isLegal (legalityOf m) && sameValues (valuesOf m) vs)
-done-legal m vs = go (legalityOf m) (sameValues (valuesOf m) vs) (agreeing (valuesOf m) vs + 2)
+done-legal : (m : Machine) (vs : List ℕ) → isDone (legalAnswer m vs) ≡ (isLegal (legalityOf m) && sameText (valuesOf m) vs)
+done-legal m vs = go (legalityOf m) (sameText (valuesOf m) vs) (agreeing (valuesOf m) vs + 2)
   where
     go : (x : Legality) (t : Bool) (line : ℕ) → isDone (ifLegal x (cond t answer.Done (answer.Stray line)) answer.Illegal) ≡ (isLegal x && t)
     go legality.Legal true line = refl
@@ -62,7 +61,7 @@ module _ (edition : ℕ) (text : List ℕ) where
 
       go : (t : Bool)
           → isDone (firstRefusal (cond t answer.Done (answer.Malformed (malformedLine text (textOf edition p)))) (legalAnswer (machineOf p) (p .values)))
-          ≡ (t && (legal (machineOf p) && sameValues (valuesOf (machineOf p)) (p .values)))
+          ≡ (t && (legal (machineOf p) && sameText (valuesOf (machineOf p)) (p .values)))
       go true = rw (legal-exactly p) (done-legal (machineOf p) (p .values))
       go false = refl
 
@@ -120,8 +119,8 @@ module _ (text : List ℕ) (e : readOf text .answer ≡ answer.Done) where
   unfolding legalText valuesAgree
   accepted-values =
       rw accepted-machine
-      (values-equal (valuesOf (machineIn edition text)) (partsIn edition text .values)
-      (and-right (legal (machineIn edition text)) (sameValues (valuesOf (machineIn edition text)) (partsIn edition text .values)) lawful))
+      (same-equal (valuesOf (machineIn edition text)) (partsIn edition text .values)
+      (and-right (legal (machineIn edition text)) (sameText (valuesOf (machineIn edition text)) (partsIn edition text .values)) lawful))
 
 -- ---- the round trips
 
@@ -157,7 +156,7 @@ unfolding savedText
 written-same m = same-self (textOf newest (partsOf m))
 
 -- a text that is as it was printed, of a legal machine with its own values
-all-well : (text printed vs : List ℕ) (m n : Machine) → sameText text printed ≡ true → n ≡ m → legalityOf m ≡ legality.Legal → sameValues (valuesOf m) vs ≡ true
+all-well : (text printed vs : List ℕ) (m n : Machine) → sameText text printed ≡ true → n ≡ m → legalityOf m ≡ legality.Legal → sameText (valuesOf m) vs ≡ true
     → readAs (firstRefusal (textAnswer text printed) (legalAnswer n vs)) n ≡ record { answer = answer.Done; machine = m }
 all-well text printed vs m n same e lawful own = rw (e, same, lawful, own) refl
 
@@ -167,7 +166,7 @@ write-then-read m e =
     ap (λ (k : ℕ). readIn k (savedText m)) (newest-named m)
     ∙ newest-read (savedText m)
     ∙ ap (readParts newest (savedText m)) (parts-back m e)
-    ∙ all-well (savedText m) (textOf newest (partsOf m)) (valuesOf m) m (machineOf (partsOf m)) (written-same m) (machine-back m e) (legal-judged m e) (values-self (valuesOf m))
+    ∙ all-well (savedText m) (textOf newest (partsOf m)) (valuesOf m) m (machineOf (partsOf m)) (written-same m) (machine-back m e) (legal-judged m e) (same-self (valuesOf m))
 
 -- no two legal machines have one text
 pub one-text-each : (m n : Machine) → legal m ≡ true → legal n ≡ true → savedText m ≡ savedText n → m ≡ n

@@ -15,7 +15,7 @@ use Rattle.machine.specs.declared.Machine.{Machine}
 use Rattle.model.specs.Legal.{legal}
 use Rattle.legality.specs.Legality.{legalityOf, ifLegal}
 use Rattle.values.specs.Agree.{agreeing}
-use Rattle.values.specs.Values.{machineFrom, valuesOf, sameValues, valuesAgree}
+use Rattle.values.specs.Values.{machineFrom, valuesOf, valuesAgree}
 use Rattle.saved.specs.Text.{newest, Parts, parts, own0, own1, editionLine, textOf, recordsAt, gpeAt}
 use Rattle.saved.specs.declared.ReadBack.{ReadBack}
 use Rattle.saved.specs.declared.ReadAnswer.{ReadAnswer}
@@ -90,7 +90,7 @@ textAnswer text printed = cond (sameText text printed) answer.Done (answer.Malfo
 abbrev pub legalAnswer : Machine → List ℕ → ReadAnswer
 legalAnswer m vs =
     ifLegal (legalityOf m)
-    (cond (sameValues (valuesOf m) vs) answer.Done (answer.Stray (agreeing (valuesOf m) vs + 2)))
+    (cond (sameText (valuesOf m) vs) answer.Done (answer.Stray (agreeing (valuesOf m) vs + 2)))
     answer.Illegal
 
 abbrev pub isDone : ReadAnswer → Bool

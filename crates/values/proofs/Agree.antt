@@ -2,37 +2,19 @@
 -- The values of a machine do not look at its general event bytes.
 -- Assumes nothing.
 use mathlib.Core.Bool.{true, false, not}
-use mathlib.Core.List.{List, [], _∷_}
-use mathlib.Core.Path.{_≡_, refl, ap}
+use mathlib.Core.List.{List, []}
+use mathlib.Core.Path.{_≡_, ap}
 use Prim.Native.Nat.{ℕ}
-use borrow.Author.Tests.{eqb-true, eq-eqb}
 use lib.Bits.{bitAnd}
-use lib.Dec.{eqb}
 use lib.ListN.{getD}
-use Rattle.lists.proofs.Tests.{and-left, and-right}
+use Rattle.text.proofs.Equal.{same-equal, same-self}
 use Rattle.bits.specs.Writes.{within}
 use Rattle.bits.proofs.Writes.{masked-within}
 use Rattle.machine.specs.declared.Machine.{Machine}
 use Rattle.registers.specs.Registers.{statusIn, enableIn}
 use Rattle.model.specs.Legal.{legal}
-use Rattle.values.specs.Values.{valuesOf, settingsFrom, machineFrom, sameValues, valuesAgree}
+use Rattle.values.specs.Values.{valuesOf, settingsFrom, machineFrom, valuesAgree}
 use Rattle.values.proofs.RoundTrip.{machine-back}
-
--- lists of the same values are equal, and a list has its own values
-pub same-equal : (xs ys : List ℕ) → sameValues xs ys ≡ true → xs ≡ ys
-unfolding sameValues
-same-equal [] [] e = refl
-same-equal [] (y ∷ ys) e = cc
-same-equal (x ∷ xs) [] e = cc
-same-equal (x ∷ xs) (y ∷ ys) e =
-    let head = eqb-true x y (and-left (eqb x y) (sameValues xs ys) e) in
-    let tail = same-equal xs ys (and-right (eqb x y) (sameValues xs ys) e) in
-    cc
-
-pub same-self : (xs : List ℕ) → sameValues xs xs ≡ true
-unfolding sameValues
-same-self [] = refl
-same-self (x ∷ xs) = rw (eq-eqb x x refl) (same-self xs)
 
 module _ (vs gpe0-sts gpe0-en gpe1-sts gpe1-en : List ℕ) where
   -- the test: the machine of the values has these values

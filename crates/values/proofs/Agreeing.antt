@@ -3,15 +3,14 @@ use mathlib.Core.Bool.{Bool, true, false, cond, _&&_}
 use mathlib.Core.List.{List, [], _∷_}
 use mathlib.Core.Path.{_≡_, refl, sym, _∙_}
 use Prim.Native.Nat.{ℕ, suc, _+_, _≤_, _<_}
-use native.Mathlib.Nat.{add-zero}
 use native.Mathlib.Numerals.{add-one}
 use native.Mathlib.Omega.{arith}
 use borrow.Author.Tests.{eq-eqb, ne-eqb}
 use lib.Dec.{eqb, eqb·suc-suc, eqb·zero-suc}
 use lib.ListN.{length, getD, drop, drop-of-length-le}
 use lib.Seq.{drop-cons}
+use Rattle.text.specs.Parts.{sameText}
 use Rattle.values.specs.Agree.{agreeing}
-use Rattle.values.specs.Values.{sameValues}
 
 -- one turn: the two differ here, or agree; and the end of one of them
 pub differs-here : (xs ys : List ℕ) (i : ℕ) → i < length xs → i < length ys → (getD xs i 0 ≡ getD ys i 0 → ⊥) → agreeing (drop i xs) (drop i ys) ≡ 0
@@ -35,7 +34,7 @@ second-ends xs ys i h = rw (drop-of-length-le ys h) (go (drop i xs))
     go [] = refl
     go (z ∷ zs) = refl
 
--- no more agree than either has
+-- no more agree than there are
 pub agree-first : (xs ys : List ℕ) → agreeing xs ys ≤ length xs
 unfolding agreeing
 agree-first [] ys = omega arith
@@ -46,24 +45,14 @@ agree-first (x ∷ xs) (y ∷ ys) = go (eqb x y) (agree-first xs ys)
     go true h = omega arith
     go false h = omega arith
 
-pub agree-most : (xs ys : List ℕ) → agreeing xs ys ≤ length ys
-unfolding agreeing
-agree-most [] ys = omega arith
-agree-most (x ∷ xs) [] = omega arith
-agree-most (x ∷ xs) (y ∷ ys) = go (eqb x y) (agree-most xs ys)
-  where
-    go : (t : Bool) → agreeing xs ys ≤ length ys → cond t (suc (agreeing xs ys)) 0 ≤ suc (length ys)
-    go true h = omega arith
-    go false h = omega arith
-
 -- lists of one length are the same exactly if they agree to their end
-pub same-exactly : (xs ys : List ℕ) → length xs ≡ length ys → sameValues xs ys ≡ eqb (agreeing xs ys) (length ys)
-unfolding agreeing sameValues
+pub same-exactly : (xs ys : List ℕ) → length xs ≡ length ys → sameText xs ys ≡ eqb (agreeing xs ys) (length ys)
+unfolding agreeing sameText
 same-exactly [] [] e = refl
 same-exactly [] (y ∷ ys) e = absurd (omega arith)
 same-exactly (x ∷ xs) [] e = absurd (omega arith)
 same-exactly (x ∷ xs) (y ∷ ys) e = go (eqb x y) (same-exactly xs ys (omega arith))
   where
-    go : (t : Bool) → sameValues xs ys ≡ eqb (agreeing xs ys) (length ys) → (t && sameValues xs ys) ≡ eqb (cond t (suc (agreeing xs ys)) 0) (suc (length ys))
+    go : (t : Bool) → sameText xs ys ≡ eqb (agreeing xs ys) (length ys) → (t && sameText xs ys) ≡ eqb (cond t (suc (agreeing xs ys)) 0) (suc (length ys))
     go true rest = rest ∙ sym (eqb·suc-suc (agreeing xs ys) (length ys))
     go false rest = sym (eqb·zero-suc (length ys))

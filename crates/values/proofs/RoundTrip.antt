@@ -28,7 +28,7 @@ use Rattle.platform.proofs.Legal.{legal-guaranteed}
 use Rattle.machine.specs.declared.Machine.{Machine}
 use Rattle.registers.specs.Registers.{controlIn}
 use Rattle.model.specs.Legal.{absentPair, statusLegal, enablesLegal, stateAllowed, counterLegal, holdLegal, commandByteLegal, slpTypsLegal, notTwo, settingsFit, legal}
-use Rattle.model.proofs.Legal.{Legal, legal-means, only-if}
+use Rattle.model.proofs.Legal.{Legal, legal-means, only-if, parts}
 use Rattle.values.specs.Values.{pairValue, pairOf, settingsValues, valuesOf, settingsFrom, machineFrom}
 use Rattle.values.proofs.Back.{flag-back, bit-0-back, waits-back, command-back, block-back, pm1-block-back, pair-bytes, pair-back, six-back, within-small, halves-back, sci-en-back, bm-rld-back, slp-typ-back, some-home, either-back}
 
@@ -41,9 +41,6 @@ pub record Fit (s : Settings) : Type 0 where
   pub flags : s .flags < 2 ^ 32
   pub six : length (s .sleep .pairs) ≡ 6
   pub two : (i : ℕ) → i < 6 → length (pairOf s i) ≡ 2
-
-parts : (a b : Bool) → (a && b) ≡ true → (a ≡ true) × (b ≡ true)
-parts a b e = (and-left a b e, and-right a b e)
 
 pub fit-means : (s : Settings) → settingsFit s ≡ true → Fit s
 unfolding settingsFit notTwo

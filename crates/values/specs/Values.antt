@@ -1,11 +1,12 @@
 -- The machine as the values of the saved text's number records, in their order (document 02, request W2), and back. It knows no text.
 -- The general event bytes are records of their own, and stand beside the values.
-use mathlib.Core.Bool.{Bool, true, false, not, cond, _&&_, _||_}
+use mathlib.Core.Bool.{Bool, true, false, not, cond, _||_}
 use mathlib.Core.List.{List, [], _∷_, _++_}
 use Prim.Native.Nat.{ℕ, _+_, _*_, _/_, _%_, _^_}
 use lib.Bits.{bitOr}
 use lib.Dec.{eqb}
 use lib.ListN.{length, getD}
+use Rattle.text.specs.Parts.{sameText}
 use Rattle.acpi.specs.Bits.{«SCI_EN», «BM_RLD», «SLP_TYPx», «ARB_DIS»}
 use Rattle.sleep.specs.Pairs.{sleepTable, aOf, bOf}
 use Rattle.platform.specs.Blocks.{block}
@@ -169,13 +170,6 @@ machineFrom vs gpe0-sts gpe0-en gpe1-sts gpe1-en =
 
 -- ---- what a reader asks
 
--- the two lists have the same values
-unfoldable pub sameValues : List ℕ → List ℕ → Bool
-sameValues [] [] = true
-sameValues [] (y ∷ ys) = false
-sameValues (x ∷ xs) [] = false
-sameValues (x ∷ xs) (y ∷ ys) = eqb x y && sameValues xs ys
-
 -- the machine of the values has these values: no unfitted or reserved bit, and none outside its home. (The general event bytes are in no value.)
 unfoldable pub valuesAgree : List ℕ → Bool
-valuesAgree vs = sameValues (valuesOf (machineFrom vs [] [] [] [])) vs
+valuesAgree vs = sameText (valuesOf (machineFrom vs [] [] [] [])) vs

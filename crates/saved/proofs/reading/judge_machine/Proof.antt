@@ -1,9 +1,7 @@
-use mathlib.Core.Path.{_≡_, subst}
-use Prim.Native.Nat.{_≤_}
+use mathlib.Core.Path.{_≡_}
 use lib.ListN.{length}
-use Rattle.values.specs.Agree.{agreeing}
 use Rattle.values.specs.Values.{valuesOf}
-use Rattle.values.proofs.Agreeing.{agree-most}
+use Rattle.values.proofs.Agreeing.{agree-first}
 use Rattle.saved.proofs.Judged.{legal-answer}
 use mathlib.Core.Path.{refl, sym, _∙_}
 use borrow.Author.Needs.{needs}
@@ -22,8 +20,7 @@ first-stray-requires c κs = search needs
 judge-values-requires : tie.Need-judge-values-requires
 judge-values-requires c κs =
     let start : _ = c .before .before .before .before in
-    let long : length (start .args .values) ≡ 42 = search needs in
-    rw (c .first-stray .ensures) (subst (λ n. agreeing (valuesOf (start .args .m)) (start .args .values) ≤ n) long (agree-most (valuesOf (start .args .m)) (start .args .values)))
+    rw (c .first-stray .ensures) (agree-first (valuesOf (start .args .m)) (start .args .values))
 
 enum-known-legality : tie.Need-enum-known-legality
 enum-known-legality c = search needs

@@ -6,8 +6,6 @@ use Rattle.values.proofs.Joined.{second-at, past-both}
 use borrow.Author.Needs.{needs}
 use Rattle.values.proofs.of.value_at.Statement.{statement}
 use Rattle.values.proofs.of.value_at.Tie as tie
-use Rattle.values.proofs.of.value_at.Reads as reads
-use Rattle.values.proofs.of.value_at.Lts as lts
 
 mul-result : tie.Need-mul-result
 mul-result c = search needs
