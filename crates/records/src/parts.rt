@@ -17,7 +17,6 @@ pub(crate) fn part_at<'a>(text: &'a [u8], from: usize, count: usize) -> &'a [u8]
     &text[from..end]
 }
 
-// What stands from a place on.
 pub(crate) fn rest_from<'a>(text: &'a [u8], from: usize) -> &'a [u8]
     ensures { λ r. ⌜ now r ≡ drop from (now (text .entry)) ⌝ }
 {

@@ -106,7 +106,6 @@ pub(crate) fn form_of(letter: u8) -> u8
     HEX
 }
 
-// The edition has the line's record.
 pub(crate) fn is_in(edition: u64, line: &[u8]) -> bool
     requires { ⌜ IsLine (now line) ⌝ }
     ensures { λ t. ⌜ t ≡ isIn edition (rowOf (now (line .entry))) ⌝ }
@@ -127,7 +126,6 @@ fn record_length(line: &[u8]) -> usize
     number_at(line, SIZE) + 1 + number_at(line, WIDTH) + 1
 }
 
-// The bytes that the record takes in an edition.
 pub(crate) fn length_in(edition: u64, line: &[u8]) -> usize
     requires { ⌜ IsLine (now line) ⌝ }
     ensures { λ n. ⌜ n ≡ lengthIn edition (rowOf (now (line .entry))) ⌝ }

@@ -25,14 +25,12 @@ ghost use Rattle.saved.specs.Text.{editionLine, ownBytes, gpeText, recor
 
 const LF: u8 = 10;
 
-// Where the records begin.
 pub(crate) fn records_at(edition: u64) -> usize
     ensures { λ r. ⌜ r ≡ recordsAt edition ⌝ }
 {
     9 + decimal_digits(edition)
 }
 
-// Where the general event bytes begin.
 pub(crate) fn gpe_at(edition: u64) -> usize
     ensures { λ r. ⌜ r ≡ gpeAt edition ⌝ }
 {

@@ -151,7 +151,6 @@ fn read_as(answer: ReadAnswer, m: Machine) -> ReadBack
     ReadBack { answer, machine }
 }
 
-// A text of an edition.
 fn read_in(text: &[u8], edition: u64) -> ReadBack
     ensures { λ r. ⌜ r ≡ readParts edition (now (text .entry)) (partsIn edition (now (text .entry))) ⌝ }
 {
