@@ -33,24 +33,34 @@ ghost use mathlib.Core.List.{[], _∷_};
 ghost use Rattle.machine.specs.Status.{pwrbtnBit};
 ghost use Rattle.machine.specs.Lines.{awake};
 ghost use Rattle.model.specs.Answer.{_if_, firstApplying};
-ghost use Rattle.model.specs.Events.{fits, inGpe0, inGpe1, eventOf};
-ghost use Rattle.model.specs.Step.{answerTo, stepOf};
+ghost use Rattle.model.specs.Events.{fits, inGpe0, inGpe1, eventOf, eventValue};
+ghost use Rattle.model.specs.Step.{eventRefusals, stepOf};
 ghost use Rattle.model.specs.declared.Answer.the-variants as answer;
 ghost use Rattle.model.specs.declared.Step.the-variants as step;
 
-// What an accepted event does.
-fn done(m: Machine, e: Event) -> Machine
-    ensures { λ r. ⌜ r ≡ eventOf m e ⌝ }
+// The value is zero.
+fn no_value(machine: Machine) -> Stepped
+    ensures { λ r. ⌜ r ≡ record { answer = answer.Done 0; machine = machine } ⌝ }
+{
+    Stepped {
+        answer: Answer::Done(0),
+        machine,
+    }
+}
+
+// What an accepted event gives and does.
+fn done(m: Machine, e: Event) -> Stepped
+    ensures { λ r. ⌜ r ≡ record { answer = answer.Done (eventValue m e); machine = eventOf m e } ⌝ }
 {
     match e {
-        Event::Press => press(m),
-        Event::Release => release(m),
-        Event::SleepPress => signal(m, SLPBTN_STS, SLPBTN),
-        Event::Alarm => signal(m, RTC_STS, RTC),
-        Event::PcieWake => pcie_wake(m),
-        Event::BusMaster => raise(m, BM),
-        Event::Unlock => raise(m, GBL),
-        Event::General(k) => general(m, k),
+        Event::Press => no_value(press(m)),
+        Event::Release => no_value(release(m)),
+        Event::SleepPress => no_value(signal(m, SLPBTN_STS, SLPBTN)),
+        Event::Alarm => no_value(signal(m, RTC_STS, RTC)),
+        Event::PcieWake => no_value(pcie_wake(m)),
+        Event::BusMaster => no_value(raise(m, BM)),
+        Event::Unlock => no_value(raise(m, GBL)),
+        Event::General(k) => no_value(general(m, k)),
         Event::Ticks(n) => ticks(m, n),
     }
 }
@@ -110,8 +120,9 @@ fn ticks_answer() -> Answer
     Answer::Done(0)
 }
 
-fn answer(m: Machine, e: Event) -> Answer
-    ensures { λ r. ⌜ r ≡ answerTo m (step.Event e) ⌝ }
+// The refusal, or an acceptance whose value is still to come.
+fn refusal(m: Machine, e: Event) -> Answer
+    ensures { λ r. ⌜ r ≡ firstApplying (eventRefusals m e) (answer.Done 0) ⌝ }
 {
     let s = m.settings;
     let down = m.button;
@@ -131,17 +142,10 @@ fn answer(m: Machine, e: Event) -> Answer
 pub fn event(m: Machine, e: Event) -> Stepped
     ensures { λ r. ⌜ r ≡ stepOf m (step.Event e) ⌝ }
 {
-    let given = answer(m, e);
-    if model::accepted(given) {
-        let machine = done(m, e);
-        Stepped {
-            answer: given,
-            machine,
-        }
+    let answer = refusal(m, e);
+    if model::accepted(answer) {
+        done(m, e)
     } else {
-        Stepped {
-            answer: given,
-            machine: m,
-        }
+        Stepped { answer, machine: m }
     }
 }

@@ -6,12 +6,15 @@ use clock::Clock;
 use machine::Machine;
 use machine::TMR;
 use machine::awake;
+use model::Answer;
+use model::Stepped;
 use platform::Settings;
 ghost use mathlib.Core.Path.{_≡_};
 ghost use mathlib.Core.Bool.{cond};
 ghost use Rattle.machine.specs.Fields.{withTime};
 ghost use Rattle.machine.specs.Sleep.{overridden};
-ghost use Rattle.model.specs.Events.{tmrRaised, timed, tickedBy};
+ghost use Rattle.model.specs.Events.{tmrRaised, timed, tickedBy, turnsBy};
+ghost use Rattle.model.specs.declared.Answer.the-variants as answer;
 
 fn tmr_raised(s: Settings, turns: u32) -> u16
     ensures { λ r. ⌜ r ≡ tmrRaised s turns ⌝ }
@@ -41,18 +44,22 @@ fn timed(m: Machine, t: Clock) -> Machine
     overridden_if(t.off, set_time(raised, t.counter, t.hold))
 }
 
-// n ticks at once, in S0 only.
-pub(crate) fn ticks(m: Machine, n: u32) -> Machine
-    ensures { λ r. ⌜ r ≡ tickedBy n m ⌝ }
+// n ticks at once, in S0 only: how often the counter's top bit turned, and the machine after them.
+pub(crate) fn ticks(m: Machine, n: u32) -> Stepped
+    ensures { λ r. ⌜ r ≡ record { answer = answer.Done (turnsBy n m); machine = tickedBy n m } ⌝ }
 {
     let s = m.settings;
+    let wide = platform::wide_timer(s);
+    let t = clock::ticks(wide, m.button, s.power_override, m.counter, m.hold, n);
     if awake(m) {
-        let wide = platform::wide_timer(s);
-        timed(
-            m,
-            clock::ticks(wide, m.button, s.power_override, m.counter, m.hold, n),
-        )
+        Stepped {
+            answer: Answer::Done(t.turns),
+            machine: timed(m, t),
+        }
     } else {
-        m
+        Stepped {
+            answer: Answer::Done(0),
+            machine: m,
+        }
     }
 }

@@ -1,42 +1,51 @@
--- A step with its ticks at once, and the test of a row that runs it. It is the model's own step, by the closed form of n ticks, so a row
+-- A step with its ticks at once, and the test of a row that runs it. It is the model's own step, by the closed forms of n ticks, so a row
 -- that passes the test holds.
 -- Assumes nothing.
 use mathlib.Core.Bool.{Bool, true, cond, _&&_}
 use mathlib.Core.List.{List, [], _∷_}
-use mathlib.Core.Path.{_≡_, refl, sym, ap}
+use mathlib.Core.Path.{_≡_, refl, ap}
 use Prim.Native.Nat.{ℕ}
 use borrow.Author.Tests.{eqb-true}
 use lib.Dec.{eqb}
 use Rattle.lists.proofs.Tests.{and-left, and-right}
-use Rattle.clock.specs.AtOnce.{afterOf}
+use Rattle.clock.specs.AtOnce.{ranOf, turnsIn, afterOf}
+use Rattle.clock.specs.Clock.{counterBits}
 use Rattle.platform.specs.Fitted.{wideTimer}
 use Rattle.machine.specs.Lines.{awake}
 use Rattle.machine.specs.declared.Machine.{Machine}
-use Rattle.model.specs.Answer.{stepNumber, stepValue}
-use Rattle.model.specs.Events.{StatusBit, eventBit, clockOf, timed, doneBy, eventOf}
+use Rattle.model.specs.Answer.{stepNumber, stepValue, firstApplying}
+use Rattle.model.specs.Events.{StatusBit, eventBit, clockOf, timed, doneBy, eventOf, valueBy}
 use Rattle.model.specs.EventKinds.{EventKind, eventKind}
 use Rattle.model.specs.EventKinds as kind
-use Rattle.model.specs.Step.{doneOf, answerTo, accepted, after}
+use Rattle.model.specs.Step.{refusalsOf, doneValue, doneOf, answerTo, accepted, after}
+use Rattle.model.specs.declared.Answer.{Answer}
+use Rattle.model.specs.declared.Answer.the-variants as answer
 use Rattle.model.specs.declared.Step.{Step}
 use Rattle.model.specs.declared.Step.the-variants as step
 use Rattle.model.proofs.Ticks.{ticks-closed-form}
+use Rattle.model.proofs.Turns.{turns-closed-form}
 use Rattle.marked_cases.specs.Rows.{Expected, Registers, Row, registersOf, Gives, Holds}
 
 -- ---- one step
 
-ticksAtOnce : ℕ → Machine → Machine
-ticksAtOnce n m = cond (awake m) (timed m (afterOf (wideTimer (m .settings)) (m .button) (m .settings .«power_override») n (clockOf m))) m
+-- what ticks give, and the machine after them
+ticksAtOnce : ℕ → Machine → ℕ × Machine
+ticksAtOnce n m =
+    let ran = ranOf (m .button) (m .settings .«power_override») (m .hold) n in (
+      cond (awake m) (turnsIn (counterBits (wideTimer (m .settings))) (m .counter) ran) 0,
+      cond (awake m) (timed m (afterOf (wideTimer (m .settings)) (m .button) (m .settings .«power_override») n (clockOf m))) m,
+    )
 
-eventAtOnce : Machine → StatusBit → EventKind → Machine
-eventAtOnce m bit kind.press = doneBy m bit kind.press
-eventAtOnce m bit kind.release = doneBy m bit kind.release
-eventAtOnce m bit kind.signal = doneBy m bit kind.signal
-eventAtOnce m bit kind.pcieWake = doneBy m bit kind.pcieWake
-eventAtOnce m bit kind.notice = doneBy m bit kind.notice
-eventAtOnce m bit (kind.general k) = doneBy m bit (kind.general k)
+eventAtOnce : Machine → StatusBit → EventKind → ℕ × Machine
+eventAtOnce m bit kind.press = (0, doneBy m bit kind.press)
+eventAtOnce m bit kind.release = (0, doneBy m bit kind.release)
+eventAtOnce m bit kind.signal = (0, doneBy m bit kind.signal)
+eventAtOnce m bit kind.pcieWake = (0, doneBy m bit kind.pcieWake)
+eventAtOnce m bit kind.notice = (0, doneBy m bit kind.notice)
+eventAtOnce m bit (kind.general k) = (0, doneBy m bit (kind.general k))
 eventAtOnce m bit (kind.ticks n) = ticksAtOnce n m
 
-event-at-once : (m : Machine) (bit : StatusBit) (k : EventKind) → eventAtOnce m bit k ≡ doneBy m bit k
+event-at-once : (m : Machine) (bit : StatusBit) (k : EventKind) → eventAtOnce m bit k ≡ (valueBy m k, doneBy m bit k)
 unfolding eventAtOnce ticksAtOnce
 event-at-once m bit kind.press = refl
 event-at-once m bit kind.release = refl
@@ -44,16 +53,16 @@ event-at-once m bit kind.signal = refl
 event-at-once m bit kind.pcieWake = refl
 event-at-once m bit kind.notice = refl
 event-at-once m bit (kind.general k) = refl
-event-at-once m bit (kind.ticks n) = sym (ticks-closed-form n m)
+event-at-once m bit (kind.ticks n) = rw (turns-closed-form n m, ticks-closed-form n m) refl
 
-doneAtOnce : Machine → Step → Machine
-doneAtOnce m (step.Read a) = doneOf m (step.Read a)
-doneAtOnce m (step.Write a written) = doneOf m (step.Write a written)
+doneAtOnce : Machine → Step → ℕ × Machine
+doneAtOnce m (step.Read a) = (doneValue m (step.Read a), doneOf m (step.Read a))
+doneAtOnce m (step.Write a written) = (doneValue m (step.Write a written), doneOf m (step.Write a written))
 doneAtOnce m (step.Event e) = eventAtOnce m (eventBit e) (eventKind e)
-doneAtOnce m step.Take = doneOf m step.Take
-doneAtOnce m step.Drop = doneOf m step.Drop
+doneAtOnce m step.Take = (doneValue m step.Take, doneOf m step.Take)
+doneAtOnce m step.Drop = (doneValue m step.Drop, doneOf m step.Drop)
 
-done-at-once : (m : Machine) (s : Step) → doneAtOnce m s ≡ doneOf m s
+done-at-once : (m : Machine) (s : Step) → doneAtOnce m s ≡ (doneValue m s, doneOf m s)
 unfolding doneAtOnce eventOf
 done-at-once m (step.Read a) = refl
 done-at-once m (step.Write a written) = refl
@@ -61,15 +70,23 @@ done-at-once m (step.Event e) = event-at-once m (eventBit e) (eventKind e)
 done-at-once m step.Take = refl
 done-at-once m step.Drop = refl
 
--- the machine after a step
+-- the answer to a step, and the machine after it
+unfoldable pub answerAtOnce : Machine → Step → Answer
+unfolding doneAtOnce eventAtOnce ticksAtOnce
+answerAtOnce m s = firstApplying (refusalsOf m s) (answer.Done (doneAtOnce m s .0))
+
 unfoldable pub afterAtOnce : Machine → Step → Machine
 unfolding doneAtOnce eventAtOnce ticksAtOnce
-afterAtOnce m s = cond (accepted (answerTo m s)) (doneAtOnce m s) m
+afterAtOnce m s = cond (accepted (answerTo m s)) (doneAtOnce m s .1) m
 
--- the machine after a step at once is the model's
+-- both are the model's
+answer-at-once : (m : Machine) (s : Step) → answerAtOnce m s ≡ answerTo m s
+unfolding answerAtOnce answerTo
+answer-at-once m s = ap (λ (x : ℕ × Machine). firstApplying (refusalsOf m s) (answer.Done (x .0))) (done-at-once m s)
+
 pub after-at-once : (m : Machine) (s : Step) → afterAtOnce m s ≡ after m s
 unfolding afterAtOnce after
-after-at-once m s = ap (λ (x : Machine). cond (accepted (answerTo m s)) x m) (done-at-once m s)
+after-at-once m s = ap (λ (x : ℕ × Machine). cond (accepted (answerTo m s)) (x .1) m) (done-at-once m s)
 
 -- ---- a row
 
@@ -99,8 +116,8 @@ same-registers a b e =
 unfoldable pub stepsHold : Machine → List Expected → Registers → Bool
 stepsHold m [] end = sameRegisters (registersOf m) end
 stepsHold m (x ∷ xs) end =
-    eqb (stepNumber (answerTo m (x .step))) (x .number)
-    && (eqb (stepValue (answerTo m (x .step))) (x .value) && stepsHold (afterAtOnce m (x .step)) xs end)
+    eqb (stepNumber (answerAtOnce m (x .step))) (x .number)
+    && (eqb (stepValue (answerAtOnce m (x .step))) (x .value) && stepsHold (afterAtOnce m (x .step)) xs end)
 
 -- the test of a row
 abbrev pub rowHolds : Row → Bool
@@ -110,10 +127,11 @@ steps-hold : (m : Machine) (xs : List Expected) (end : Registers) → stepsHold 
 unfolding stepsHold Gives
 steps-hold m [] end e = same-registers (registersOf m) end e
 steps-hold m (x ∷ xs) end e =
-    let a = answerTo m (x .step) in
+    let a = answerAtOnce m (x .step) in
+    let same = answer-at-once m (x .step) in
     let number = both (stepNumber a) (x .number) _ e in
     let value = both (stepValue a) (x .value) _ (number .1) in
-    (number .0, value .0, rw (after-at-once m (x .step)) at (steps-hold (afterAtOnce m (x .step)) xs end (value .1)))
+    (rw same at (number .0), rw same at (value .0), rw (after-at-once m (x .step)) at (steps-hold (afterAtOnce m (x .step)) xs end (value .1)))
 
 -- a row that passes holds
 pub row-holds : (r : Row) → rowHolds r ≡ true → Holds r

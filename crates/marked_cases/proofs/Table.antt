@@ -15,7 +15,7 @@ use Rattle.machine.specs.Sleep.{isSleeping}
 use Rattle.model.specs.Answer.{firstApplying}
 use Rattle.model.specs.Bus.{wrongWidth, dataTooWide, leadsNowhere, allowed, isTimer, commandLost, readOf, writeOf}
 use Rattle.model.specs.Control.{namesNone, setsSlpEn, typAfter, completes, bmRldAfter}
-use Rattle.model.specs.Events.{inS5, pressOf, tmrRaised, timed, tickedBy, eventOf}
+use Rattle.model.specs.Events.{inS5, pressOf, tmrRaised, timed, tickedBy, turnsBy, eventOf}
 use Rattle.model.specs.Ports.{registerAt, offsetAt}
 use Rattle.machine.specs.declared.Machine.{Machine}
 use Rattle.model.specs.Step.{answerTo, after, stepOf}
@@ -24,7 +24,7 @@ use Rattle.model.proofs.Readings.{ticks}
 use Rattle.marked_cases.specs.Platform.{platform, SetUpGives}
 use Rattle.marked_cases.specs.Rows.{Row, Holds, rows}
 use Rattle.marked_cases.proofs.Accepted.{set-up-gives}
-use Rattle.marked_cases.proofs.AtOnce.{afterAtOnce, sameRegisters, stepsHold, rowHolds, row-holds}
+use Rattle.marked_cases.proofs.AtOnce.{answerAtOnce, afterAtOnce, sameRegisters, stepsHold, rowHolds, row-holds}
 
 -- each row of the list passes the test
 unfoldable pub allHold : List Row → Bool
@@ -39,7 +39,7 @@ each-holds (x ∷ rs) e r (List·Memᴰ·tail at) = each-holds rs (and-right (ro
 
 -- the test over the whole list
 pub rows-pass : allHold rows ≡ true
-unfolding allHold stepsHold sameRegisters afterAtOnce answerTo firstApplying awake wrongWidth dataTooWide leadsNowhere allowed isTimer commandLost namesNone readOf writeOf setsSlpEn typAfter completes bmRldAfter registerAt offsetAt firstAt holds present hasBit inStatus inEnable statusAfter enableAfter controlIn coversLow coversHigh writtenBit maskOf flagOf bitAt timed tmrRaised offWithin ranOf counterAfter turnsIn holdAfter pressOf inS5 isSleeping eventOf
+unfolding allHold stepsHold sameRegisters answerAtOnce afterAtOnce answerTo firstApplying awake wrongWidth dataTooWide leadsNowhere allowed isTimer commandLost namesNone readOf writeOf setsSlpEn typAfter completes bmRldAfter registerAt offsetAt firstAt holds present hasBit inStatus inEnable statusAfter enableAfter controlIn coversLow coversHigh writtenBit maskOf flagOf bitAt timed tmrRaised offWithin ranOf counterAfter turnsIn holdAfter pressOf inS5 isSleeping eventOf
 rows-pass = refl
 
 -- the marked cases: what each row of the list claims of `stepOf` holds
@@ -48,7 +48,7 @@ marked-cases = each-holds rows rows-pass
 
 -- "zero ticks: nothing", of any machine and every part of it
 pub zero-ticks : (m : Machine) → stepOf m (ticks 0) ≡ record { answer = answer.Done 0; machine = m }
-unfolding answerTo firstApplying after eventOf tickedBy
+unfolding answerTo firstApplying after eventOf tickedBy turnsBy
 zero-ticks m = refl
 
 -- ---- the settings
@@ -70,4 +70,7 @@ rows-accepted =
     (more false refl
     (more false refl (more false refl (more false refl (more false refl
     (more true refl
-    (more false refl (more false refl (more false refl (more false refl (more false refl none)))))))))))))))
+    (more false refl (more false refl (more false refl (more false refl (more false refl
+    (more false refl (more false refl
+    (more true refl (more true refl
+    (more false refl (more false refl (more false refl (more false refl none)))))))))))))))))))))))

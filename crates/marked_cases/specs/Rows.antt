@@ -1,11 +1,11 @@
--- The marked cases of document 01, "Values on each side": one list of rows, and what a row claims.
+-- The marked cases of document 01, "Values on each side", and request W1's limits: one list of rows, and what a row claims.
 -- That each row's claim holds is `marked-cases` of `proofs/Table.antt`.
 use mathlib.Core.Bool.{true, false}
 use mathlib.Core.List.{List, [], _∷_}
 use mathlib.Core.Path.{_≡_}
 use Prim.Native.Nat.{ℕ}
 use Rattle.machine.specs.declared.Machine.{Machine}
-use Rattle.machine.specs.Fields.{withEvent, withButton, withSciEn, withTime}
+use Rattle.machine.specs.Fields.{withEvent, withButton, withSciEn, withTime, enter}
 use Rattle.machine.specs.PowerOn.{powerOn}
 use Rattle.model.specs.Answer.{stepNumber, stepValue}
 use Rattle.model.specs.Step.{stepOf}
@@ -79,6 +79,9 @@ read port width = step.Read (record { port = port; width = width })
 abbrev write : ℕ → ℕ → ℕ → Step
 write port width written = step.Write (record { port = port; width = width }) written
 
+abbrev ticks : ℕ → Step
+ticks n = step.Event (event.Ticks n)
+
 -- the power-on machine, with a timer of 24 bits
 abbrev narrow : Machine
 narrow = powerOn (platform false)
@@ -99,6 +102,10 @@ counting m counter = withTime m counter 0
 abbrev held : ℕ → Machine
 held hold = withButton allSet true hold
 
+-- the same, and the counter stands so
+abbrev heldAt : ℕ → ℕ → Machine
+heldAt counter hold = withTime (held hold) counter hold
+
 -- ---- the rows
 
 abbrev pub rows : List Row
@@ -116,24 +123,37 @@ rows =
     -- "Control A write FFFF, SCI_EN set, B present, reads 1C03"
     row (withSciEn narrow true) (write 0x404 2 0xFFFF gives 0 ∷ read 0x404 2 gives 0x1C03 ∷ []) (left 0 0 0 0 0) ∷
     -- "24-bit counter 8,388,607, one tick: TMR set"
-    row (counting narrow 8388607) (step.Event (event.Ticks 1) gives 0 ∷ read 0x400 2 gives 0x0001 ∷ []) (left 0x0001 0 8388608 0 0) ∷
+    row (counting narrow 8388607) (ticks 1 gives 1 ∷ read 0x400 2 gives 0x0001 ∷ []) (left 0x0001 0 8388608 0 0) ∷
     -- "16,777,215 to 0: set"
-    row (counting narrow 16777215) (step.Event (event.Ticks 1) gives 0 ∷ read 0x400 2 gives 0x0001 ∷ []) (left 0x0001 0 0 0 0) ∷
+    row (counting narrow 16777215) (ticks 1 gives 1 ∷ read 0x400 2 gives 0x0001 ∷ []) (left 0x0001 0 0 0 0) ∷
     -- "0 by 8,388,607: not"
-    row (counting narrow 0) (step.Event (event.Ticks 8388607) gives 0 ∷ read 0x400 2 gives 0x0000 ∷ []) (left 0x0000 0 8388607 0 0) ∷
+    row (counting narrow 0) (ticks 8388607 gives 0 ∷ read 0x400 2 gives 0x0000 ∷ []) (left 0x0000 0 8388607 0 0) ∷
     -- "zero ticks: nothing"
-    row (counting narrow 8388607) (step.Event (event.Ticks 0) gives 0 ∷ read 0x400 2 gives 0x0000 ∷ []) (left 0x0000 0 8388607 0 0) ∷
+    row (counting narrow 8388607) (ticks 0 gives 0 ∷ read 0x400 2 gives 0x0000 ∷ []) (left 0x0000 0 8388607 0 0) ∷
     -- "32-bit 8,388,607 by one: not"
-    row (counting wide 8388607) (step.Event (event.Ticks 1) gives 0 ∷ read 0x400 2 gives 0x0000 ∷ []) (left 0x0000 0 8388608 0 0) ∷
+    row (counting wide 8388607) (ticks 1 gives 0 ∷ read 0x400 2 gives 0x0000 ∷ []) (left 0x0000 0 8388608 0 0) ∷
     -- "Hold 14,318,179 stays S0": the tick that reaches it
-    row (held 14318178) (step.Event (event.Ticks 1) gives 0 ∷ []) (left 0xC731 0 1 14318179 0) ∷
+    row (held 14318178) (ticks 1 gives 0 ∷ []) (left 0xC731 0 1 14318179 0) ∷
     -- the same by all the ticks from a press on, which turn the counter's top bit too
-    row narrow (step.Event event.Press gives 0 ∷ step.Event (event.Ticks 14318179) gives 0 ∷ []) (left 0x0101 0 14318179 14318179 0) ∷
+    row narrow (step.Event event.Press gives 0 ∷ ticks 14318179 gives 1 ∷ []) (left 0x0101 0 14318179 14318179 0) ∷
     -- "one more is S5", with PWRBTN cleared
-    row (held 14318179) (step.Event (event.Ticks 1) gives 0 ∷ []) (left 0xC631 0 1 14318180 5) ∷
+    row (held 14318179) (ticks 1 gives 0 ∷ []) (left 0xC631 0 1 14318180 5) ∷
     -- the same from a press on
-    row narrow (step.Event event.Press gives 0 ∷ step.Event (event.Ticks 14318179) gives 0 ∷ step.Event (event.Ticks 1) gives 0 ∷ [])
+    row narrow (step.Event event.Press gives 0 ∷ ticks 14318179 gives 1 ∷ ticks 1 gives 0 ∷ [])
     (left 0x0001 0 14318180 14318180 5) ∷
     -- "Port 65,536: 23"
     row allSet (read 0x10000 2 refused 23 ∷ write 0x10000 1 0xFF refused 23 ∷ []) (left 0xC731 0 0 0 0) ∷
+    -- W1: "at most 512 with 24 bits", and one tick's start below it
+    row (counting narrow 1) (ticks 4294967295 gives 512 ∷ []) (left 0x0001 0 0 0 0) ∷
+    row (counting narrow 0) (ticks 4294967295 gives 511 ∷ []) (left 0x0001 0 16777215 0 0) ∷
+    -- "at most 2 with 32 bits"
+    row (counting wide 1) (ticks 4294967295 gives 2 ∷ []) (left 0x0001 0 0 0 0) ∷
+    row (counting wide 0) (ticks 4294967295 gives 1 ∷ []) (left 0x0001 0 4294967295 0 0) ∷
+    -- two turns in one step: the top bit is as it was
+    row (counting narrow 8388607) (ticks 8388609 gives 2 ∷ []) (left 0x0001 0 0 0 0) ∷
+    -- "stopping where an override puts the machine into S5": by its second tick; by its first, which turns the bit; and in S5
+    row (heldAt 8388607 14318178) (ticks 4294967295 gives 1 ∷ []) (left 0xC631 0 8388609 14318180 5) ∷
+    row (heldAt 8388607 14318179) (ticks 4294967295 gives 1 ∷ ticks 4294967295 gives 0 ∷ []) (left 0xC631 0 8388608 14318180 5) ∷
+    -- none in S3
+    row (enter (counting narrow 8388607) 3) (ticks 1 gives 0 ∷ []) (left 0x0000 0 8388607 0 3) ∷
     []

@@ -9,9 +9,14 @@ use lib.Pow.{pow-lt}
 use Rattle.bits.specs.Writes.{within}
 use Rattle.platform.specs.Fitted.{statusCells}
 use Rattle.platform.specs.declared.settings.Settings.{Settings}
-use Rattle.model.specs.Events.{StatusBit, pm1, gpe, eventBit, pm1Mask, eventMask}
+use Rattle.machine.specs.declared.Machine.{Machine}
+use Rattle.model.specs.Answer.{firstApplying}
+use Rattle.model.specs.Events.{StatusBit, pm1, gpe, eventBit, pm1Mask, eventMask, valueBy}
 use Rattle.model.specs.EventKinds.{EventKind, eventKind}
 use Rattle.model.specs.EventKinds as kind
+use Rattle.model.specs.Step.{refusalsBy}
+use Rattle.model.specs.declared.Answer.{Answer}
+use Rattle.model.specs.declared.Answer.the-variants as answer
 use Rattle.model.specs.declared.Event.{Event}
 use Rattle.model.specs.declared.Event.the-variants as event
 use Rattle.model.proofs.Fitted.{bm-within, gbl-within}
@@ -53,3 +58,7 @@ pm1-or-general P by-pm1 by-number (ticks n) = by-pm1 0 (kind.ticks n) (lit< tt)
 -- the bit lies in the register
 pub event-mask-lt : (e : Event) → eventMask e < 2 ^ 16
 event-mask-lt e = pm1-or-general (λ bit k. pm1Mask bit < 2 ^ 16) (λ i k l. pow-lt l) (λ k. lit< tt) (pair-of e)
+
+-- the answer to an event, by its bit and its kind
+abbrev pub answerBy : Machine → StatusBit → EventKind → Answer
+answerBy m bit k = firstApplying (refusalsBy m bit k) (answer.Done (valueBy m k))

@@ -43,7 +43,7 @@ use Rattle.model.specs.Firmware.{isAcpiEnable, enablesAfter, sciEnAfter}
 use Rattle.model.specs.EventKinds.{EventKind}
 use Rattle.model.specs.Legal.{absentPair, stateAllowed}
 use Rattle.model.specs.Ports.{registers, placeAt, registerAt, offsetAt}
-use Rattle.model.specs.Step.{registerOf, offsetOf, unfitted, refusalsBy, refusalsOf, doneOf, answerTo, accepted, after}
+use Rattle.model.specs.Step.{registerOf, offsetOf, unfitted, refusalsOf, doneOf, answerTo, accepted, after}
 use Rattle.model.specs.declared.Answer.the-variants as answer
 use Rattle.model.specs.declared.Event.{Event}
 use Rattle.model.specs.declared.Event.the-variants as event
@@ -51,7 +51,7 @@ use Rattle.model.specs.declared.Register.{Register}
 use Rattle.model.specs.declared.Register.the-variants as register
 use Rattle.model.specs.declared.Step.{Step}
 use Rattle.model.specs.declared.Step.the-variants as step
-use Rattle.model.proofs.EventBits.{Pair, pair-of}
+use Rattle.model.proofs.EventBits.{Pair, pair-of, answerBy}
 use Rattle.model.proofs.EventBits as pair
 use Rattle.model.proofs.Fitted.{zero-within, or-within, part-within, shown-within, self-within, has-within, tmr-within}
 use Rattle.model.proofs.Steps.{rowApplies, zero-exactly}
@@ -282,12 +282,12 @@ passes : (m : Machine) (s : Step) → accepted (answerTo m s) ≡ true → (k : 
 passes m s e = zero-exactly m s .0 (eqb-true _ _ e)
 
 -- an accepted event that asks to be fitted is
-first-fits : (m : Machine) (bit : StatusBit) (ls : List Refusal) → accepted (firstApplying (unfitted m bit ∷ ls) (answer.Done 0)) ≡ true
+first-fits : (m : Machine) (bit : StatusBit) (ls : List Refusal) (v : ℕ) → accepted (firstApplying (unfitted m bit ∷ ls) (answer.Done v)) ≡ true
     → fits (m .settings) (pm1Mask bit) ≡ true
 unfolding firstApplying
-first-fits m bit ls = go (fits (m .settings) (pm1Mask bit))
+first-fits m bit ls v = go (fits (m .settings) (pm1Mask bit))
   where
-    go : (t : Bool) → accepted (cond (not t) answer.NotFitted (firstApplying ls (answer.Done 0))) ≡ true → t ≡ true
+    go : (t : Bool) → accepted (cond (not t) answer.NotFitted (firstApplying ls (answer.Done v))) ≡ true → t ≡ true
     go true a = refl
     go false a = absurd (false≢true a)
 
@@ -345,13 +345,13 @@ module _ (P : Machine → Type 0) (keeps : Keeps P) where
       (λ o. keeps .raises (ticked m n) bits w (keeps .ticks m n up o p)))
       (λ e. p))
 
-  kind-kept : {bit : StatusBit} {k : EventKind} → Pair bit k → (m : Machine) → accepted (firstApplying (refusalsBy m bit k) (answer.Done 0)) ≡ true
+  kind-kept : {bit : StatusBit} {k : EventKind} → Pair bit k → (m : Machine) → accepted (answerBy m bit k) ≡ true
       → P m → P (doneBy m bit k)
   unfolding answerTo any
-  kind-kept pair.press m a p = press-kept m (first-fits m (pm1 8) _ a) p
+  kind-kept pair.press m a p = press-kept m (first-fits m (pm1 8) _ _ a) p
   kind-kept pair.release m a p = keeps .releases m p
-  kind-kept (pair.signal i l) m a p = signal-kept m (pm1 i) (has-within _ i (first-fits m (pm1 i) _ a)) p
-  kind-kept pair.pcie-wake m a p = pcie-kept m (has-within _ 14 (first-fits m (pm1 14) _ a)) p
+  kind-kept (pair.signal i l) m a p = signal-kept m (pm1 i) (has-within _ i (first-fits m (pm1 i) _ _ a)) p
+  kind-kept pair.pcie-wake m a p = pcie-kept m (has-within _ 14 (first-fits m (pm1 14) _ _ a)) p
   kind-kept (pair.notice i l f) m a p = keeps .raises m (2 ^ i) (f (m .settings)) p
   kind-kept (pair.general k) m a p = general-kept m k (not-false _ (or-left _ _ (passes m (step.Event (event.General k)) a 29))) p
   kind-kept (pair.ticks n) m a p = ticks-kept m n p

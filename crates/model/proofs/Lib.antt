@@ -12,3 +12,4 @@ pub mod Fits
 pub mod Legal
 pub mod Readings
 pub mod Wakes
+pub mod Turns

@@ -37,7 +37,7 @@ use Rattle.model.specs.Raises.{Change, unchanged, clearing, raising, bit
 use Rattle.machine.specs.Sleep.{isSleeping, pending, woken, wokenIf, completed, restarted, overridden}
 use Rattle.model.specs.EventKinds.{EventKind, eventKind}
 use Rattle.model.specs.EventKinds as kind
-use Rattle.model.specs.Step.{registerOf, offsetOf, refusalsBy, doneOf, answerTo, accepted, after}
+use Rattle.model.specs.Step.{registerOf, offsetOf, doneOf, answerTo, accepted, after}
 use Rattle.model.specs.declared.Answer.the-variants as answer
 use Rattle.model.specs.declared.Event.{Event}
 use Rattle.model.specs.declared.Event.the-variants as event
@@ -45,7 +45,7 @@ use Rattle.model.specs.declared.Register.{Register}
 use Rattle.model.specs.declared.Register.the-variants as register
 use Rattle.model.specs.declared.Step.{Step}
 use Rattle.model.specs.declared.Step.the-variants as step
-use Rattle.model.proofs.EventBits.{Pair, pair-of, pm1-or-general, event-mask-lt}
+use Rattle.model.proofs.EventBits.{Pair, pair-of, pm1-or-general, event-mask-lt, answerBy}
 use Rattle.model.proofs.EventBits as pair
 use Rattle.model.proofs.Ticks.{ticks-at-once}
 
@@ -544,7 +544,7 @@ in-gpe1-lt s k e = go (leb (s .«gpe1_base») k) e
 
 -- an event is accepted, by its bit and its kind
 abbrev acceptedBy : Machine → StatusBit → EventKind → Bool
-acceptedBy m bit k = accepted (firstApplying (refusalsBy m bit k) (answer.Done 0))
+acceptedBy m bit k = accepted (answerBy m bit k)
 
 general-accepted : (m : Machine) (k : ℕ) → acceptedBy m (gpe k) (kind.general k) ≡ (inGpe0 (m .settings) k || inGpe1 (m .settings) k)
 unfolding firstApplying

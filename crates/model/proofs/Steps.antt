@@ -17,7 +17,7 @@ use Rattle.model.specs.Answer.{stepNumber, stepValue, Refusal, firstAppl
 use Rattle.model.specs.Events.{StatusBit, eventBit}
 use Rattle.model.specs.EventKinds.{EventKind, eventKind}
 use Rattle.model.specs.EventKinds as kind
-use Rattle.model.specs.Step.{refusalsBy, refusalsOf, doneValue, doneOf, answerTo, accepted, after}
+use Rattle.model.specs.Step.{refusalsBy, refusalsOf, doneValue, doneOf, answerTo, accepted, after, stepOf}
 use Rattle.model.specs.declared.Access.{Access}
 use Rattle.model.specs.declared.Answer.{Answer}
 use Rattle.model.specs.declared.Answer.the-variants as answer
@@ -174,6 +174,21 @@ module _ (last : Answer) where
           let none = rest (rw p at e) in
           (none .0, λ k. row-skipped l ls k p ∙ none .1 k)
 
+-- which refusal is given does not hang on the value
+value-apart : (v w : ℕ) (ls : List Refusal) (b : ℕ) → rising b ls ≡ true
+    → firstApplying ls (answer.Done w) ≡ cond (accepted (firstApplying ls (answer.Done v))) (answer.Done w) (firstApplying ls (answer.Done v))
+unfolding firstApplying
+value-apart v w [] b r = refl
+value-apart v w (l ∷ ls) b r =
+    go (l .applies) (value-apart v w ls (stepNumber (l .answer)) (and-right (ltb b (stepNumber (l .answer))) _ r))
+  where
+    go : (t : Bool)
+        → firstApplying ls (answer.Done w) ≡ cond (accepted (firstApplying ls (answer.Done v))) (answer.Done w) (firstApplying ls (answer.Done v))
+        → cond t (l .answer) (firstApplying ls (answer.Done w))
+        ≡ cond (accepted (cond t (l .answer) (firstApplying ls (answer.Done v)))) (answer.Done w) (cond t (l .answer) (firstApplying ls (answer.Done v)))
+    go true rest = rw (ne-eqb (stepNumber (l .answer)) 0 (λ e. omega (arith, ltb-true b _ (and-left _ _ r))))
+    go false rest = rest
+
 -- ---- which number is given
 
 events-rise : (m : Machine) (bit : StatusBit) (k : EventKind) → rising 0 (refusalsBy m bit k) ≡ true
@@ -217,6 +232,23 @@ module _ (m : Machine) (s : Step) where
   pub accepted-value : accepted (answerTo m s) ≡ true → stepValue (answerTo m s) ≡ doneValue m s
   unfolding answerTo
   accepted-value e = ap stepValue (accepted-none (answer.Done (doneValue m s)) (refusalsOf m s) 0 (lines-rise m s) (eqb-true _ _ e) .0)
+
+-- the refusal that a step is given, else an acceptance without its value
+abbrev pub refusalTo : Machine → Step → Answer
+refusalTo m s = firstApplying (refusalsOf m s) (answer.Done 0)
+
+-- the refusal alone, or what the step gives and does
+pub stepped-unless-refused : (m : Machine) (s : Step)
+    → stepOf m s
+    ≡ cond (accepted (refusalTo m s)) (record { answer = answer.Done (doneValue m s); machine = doneOf m s }) (record { answer = refusalTo m s; machine = m })
+unfolding answerTo after
+stepped-unless-refused m s =
+    go (accepted (refusalTo m s)) refl (value-apart 0 (doneValue m s) (refusalsOf m s) 0 (lines-rise m s))
+  where
+    go : (t : Bool) → accepted (refusalTo m s) ≡ t → answerTo m s ≡ cond t (answer.Done (doneValue m s)) (refusalTo m s)
+        → stepOf m s ≡ cond t (record { answer = answer.Done (doneValue m s); machine = doneOf m s }) (record { answer = refusalTo m s; machine = m })
+    go true p e = rw e refl
+    go false p e = rw (e, p) refl
 
 -- ---- reads
 

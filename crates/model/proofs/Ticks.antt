@@ -25,13 +25,13 @@ use Rattle.machine.specs.Sleep.{overridden}
 use Rattle.model.proofs.LinesExactly.{awake-exactly}
 
 -- n ticks of a clock, and one, as the machine's settings and button have them
-abbrev clockRun : Machine → ℕ → Clock → Clock
+abbrev pub clockRun : Machine → ℕ → Clock → Clock
 clockRun m n t = clockTicks (wideTimer (m .settings)) (m .button) (m .settings .«power_override») n t
 
-abbrev clockTick : Machine → Clock → Clock
+abbrev pub clockTick : Machine → Clock → Clock
 clockTick m t = tickOf (wideTimer (m .settings)) (m .button) (m .settings .«power_override») t
 
-abbrev clock : ℕ → ℕ → ℕ → Bool → Clock
+abbrev pub clock : ℕ → ℕ → ℕ → Bool → Clock
 clock counter turns hold off = record { counter = counter; turns = turns; hold = hold; off = off }
 
 -- ---- turns
@@ -69,7 +69,7 @@ ended m status counter hold off =
     cond off (overridden m′) m′
 
 -- a clock that starts anew
-timed-none : (m : Machine) → timed m (clockOf m) ≡ m
+pub timed-none : (m : Machine) → timed m (clockOf m) ≡ m
 unfolding timed
 timed-none m = ap (λ (x : ℕ). withEvent m x (m .«pm1_en»)) (ap (bitOr (m .«pm1_sts»)) (tmr-none (m .settings)) ∙ or-zero-r (m .«pm1_sts»))
 
@@ -77,7 +77,7 @@ status-next : (s : Settings) (status a b : ℕ) → bitOr (bitOr status (tmrRais
 status-next s status a b = rw (or-assoc status, zero-add, tmr-add)
 
 module _ (m : Machine) (up : awake m ≡ true) where
-  tick-timed : (c u h : ℕ) (off : Bool) → tickedOnce (timed m (clock c u h off)) ≡ timed m (clockTick m (clock c u h off))
+  pub tick-timed : (c u h : ℕ) (off : Bool) → tickedOnce (timed m (clock c u h off)) ≡ timed m (clockTick m (clock c u h off))
   unfolding timed tickedOnce tickOf awake
   tick-timed c u h true = refl
   tick-timed c u h false =
@@ -148,7 +148,7 @@ pub ticks-settings : (n : ℕ) (m : Machine) → tickedBy n m .settings ≡ m .s
 ticks-settings n m = rw (ticks-at-once n m, cond-ap (λ (x : Machine). x .settings) (awake m), timed-settings, cond-same)
 
 module _ (n : ℕ) (m : Machine) where
-  clock-closed-form : clockAfter m n ≡ afterOf (wideTimer (m .settings)) (m .button) (m .settings .«power_override») n (clockOf m)
+  pub clock-closed-form : clockAfter m n ≡ afterOf (wideTimer (m .settings)) (m .button) (m .settings .«power_override») n (clockOf m)
   clock-closed-form = clock-ticks-at-once (wideTimer (m .settings)) (m .button) (m .settings .«power_override») n (clockOf m) refl
 
   -- the same with no recursion over n

@@ -21,7 +21,7 @@ stepNumber answer.NoSuchEvent = 29
 stepNumber answer.ButtonAlready = 30
 stepNumber answer.NoCommand = 31
 
--- "Value is the reading or the command taken, else zero"
+-- "Value is the reading or the command taken, else zero"; of ticks (request W1), how often the counter's top bit turned
 abbrev pub stepValue : Answer → ℕ
 stepValue (answer.Done v) = v
 stepValue answer.Asleep = 0

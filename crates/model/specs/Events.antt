@@ -1,12 +1,12 @@
 -- Buttons, alarm, PCIe wake, bus master, global lock, general events and ticks.
 use mathlib.Core.Bool.{Bool, true, false, not, cond, _&&_}
 use mathlib.Core.List.{List}
-use Prim.Native.Nat.{ℕ, zero, suc, _-_, _/_, _%_, _^_}
+use Prim.Native.Nat.{ℕ, zero, suc, _+_, _-_, _/_, _%_, _^_}
 use lib.Bits.{bitOr}
 use lib.Dec.{eqb, ltb, leb}
 use lib.ListN.{getD, set}
 use Rattle.acpi.specs.Bits.{«TMR_STS», «BM_STS», «GBL_STS», «PWRBTN_STS», «SLPBTN_STS», «RTC_STS», «PCIEXP_WAKE_STS»}
-use Rattle.clock.specs.Clock.{tickOf, startOf, ticksOf as clockTicks}
+use Rattle.clock.specs.Clock.{counterBits, topBit, tickOf, startOf, ticksOf as clockTicks}
 use Rattle.clock.specs.declared.Clock.{Clock}
 use Rattle.platform.specs.Fitted.{statusCells, wideTimer}
 use Rattle.platform.specs.Rules.{eventCount}
@@ -169,6 +169,21 @@ unfoldable pub tickedBy : ℕ → Machine → Machine
 tickedBy zero m = m
 tickedBy (suc n) m = tickedBy n (tickedOnce m)
 
+-- ---- turns: request W1
+
+-- "the top bit" of the machine's counter
+abbrev pub timerTop : Machine → ℕ
+timerTop m = topBit (counterBits (wideTimer (m .settings))) (m .counter)
+
+-- 1 for a "single tick that turned the bit", else 0
+unfoldable pub turnedOnce : Machine → ℕ
+turnedOnce m = cond (eqb (timerTop (tickedOnce m)) (timerTop m)) 0 1
+
+-- "the number of single ticks that turned the bit, stopping where an override puts the machine into S5": in S5 no tick changes the counter
+unfoldable pub turnsBy : ℕ → Machine → ℕ
+turnsBy zero m = 0
+turnsBy (suc n) m = turnedOnce m + turnsBy n (tickedOnce m)
+
 -- ---- all of them
 
 -- what an accepted event does, by its bit and its kind
@@ -183,3 +198,16 @@ doneBy m bit (kind.ticks n) = tickedBy n m
 
 unfoldable pub eventOf : Machine → Event → Machine
 eventOf m e = doneBy m (eventBit e) (eventKind e)
+
+-- W1: "the tick step gives that as its value in place of zero"
+abbrev pub valueBy : Machine → EventKind → ℕ
+valueBy m kind.press = 0
+valueBy m kind.release = 0
+valueBy m kind.signal = 0
+valueBy m kind.pcieWake = 0
+valueBy m kind.notice = 0
+valueBy m (kind.general k) = 0
+valueBy m (kind.ticks n) = turnsBy n m
+
+abbrev pub eventValue : Machine → Event → ℕ
+eventValue m e = valueBy m (eventKind e)

@@ -7,7 +7,7 @@ use Rattle.machine.specs.declared.Machine.{Machine}
 use Rattle.model.specs.Answer.{stepNumber, Refusal, _if_, firstApplying}
 use Rattle.model.specs.Bus.{wrongWidth, dataTooWide, leadsNowhere, allowed, isTimer, commandLost, readOf, writeOf}
 use Rattle.model.specs.Control.{namesNone}
-use Rattle.model.specs.Events.{StatusBit, eventBit, pm1Mask, fits, inGpe0, inGpe1, eventOf}
+use Rattle.model.specs.Events.{StatusBit, eventBit, pm1Mask, fits, inGpe0, inGpe1, eventOf, eventValue}
 use Rattle.model.specs.Firmware.{takeOf, dropOf}
 use Rattle.model.specs.EventKinds.{EventKind, eventKind}
 use Rattle.model.specs.EventKinds as kind
@@ -84,11 +84,11 @@ refusalsOf m step.Drop = answer.Asleep if not (awake m) ∷ []
 
 -- ---- the step
 
--- "Value is the reading or the command taken, else zero."
+-- "Value is the reading or the command taken, else zero."; of ticks, request W1's count
 abbrev pub doneValue : Machine → Step → ℕ
 doneValue m (step.Read a) = readOf m (registerOf m a) (a .width) (offsetOf m a)
 doneValue m (step.Write a written) = 0
-doneValue m (step.Event e) = 0
+doneValue m (step.Event e) = eventValue m e
 doneValue m step.Take = m .command
 doneValue m step.Drop = 0
 

@@ -14,7 +14,7 @@ use Rattle.model.specs.Step.{answerTo, after}
 use Rattle.model.specs.declared.Answer.{Answer}
 use Rattle.model.specs.declared.Event.{Event}
 use Rattle.model.specs.declared.Step.the-variants as step
-use Rattle.split_access.proofs.Effects.{Effect, affected, effectOf, On, event-affects}
+use Rattle.split_access.proofs.Effects.{Effect, answered, affected, effectOf, On, event-affects}
 
 -- ---- two events
 
@@ -22,7 +22,7 @@ use Rattle.split_access.proofs.Effects.{Effect, affected, effectOf, On,
 abbrev pub quietly : Answer → ℕ → (List ℕ → List ℕ) → (List ℕ → List ℕ) → Effect
 quietly a mask gpe0 gpe1 =
     record {
-      answer = λ b. a;
+      answer = λ b h c. a;
       mask = λ b h c. mask;
       button = λ b. b;
       hold = λ b h c. h;
@@ -80,8 +80,8 @@ events-commute m g b z on-g on-b (quiet-first q kept) =
     let b-m = event-affects m b z on in
     let b-g = event-affects (affected Eg m) b z on-b in
     let g-b = event-affects (affected Eb m) g z on-g′ in
-    let fixed : Eg .answer (m .button) ≡ Eg .answer (Eb .button (m .button)) = rw (q .is) refl in
-    let still : Eb .answer (Eg .button (m .button)) ≡ Eb .answer (m .button) = rw (q .is) refl in
+    let fixed : answered Eg m ≡ answered Eg (affected Eb m) = rw (q .is) refl in
+    let still : answered Eb (affected Eg m) ≡ answered Eb m = rw (q .is) refl in
     let ends : affected Eb (affected Eg m) ≡ affected Eg (affected Eb m) =
     rw (q .is) (effects-commute m (q .answer) (q .mask) (q .gpe0) (q .gpe1) Eb (kept .first) (kept .second)) in (
       orders-meet m g b (affected Eg m) (affected Eb m) (affected Eb (affected Eg m)) (g-m .1) (b-m .1) (g-m .0 ∙ fixed ∙ sym (g-b .0))
@@ -97,8 +97,8 @@ events-commute m g b z on-g on-b (quiet-second kept q) =
     let b-m = event-affects m b z on in
     let b-g = event-affects (affected Eg m) b z on-b in
     let g-b = event-affects (affected Eb m) g z on-g′ in
-    let fixed : Eb .answer (Eg .button (m .button)) ≡ Eb .answer (m .button) = rw (q .is) refl in
-    let still : Eg .answer (m .button) ≡ Eg .answer (Eb .button (m .button)) = rw (q .is) refl in
+    let fixed : answered Eb (affected Eg m) ≡ answered Eb m = rw (q .is) refl in
+    let still : answered Eg m ≡ answered Eg (affected Eb m) = rw (q .is) refl in
     let ends : affected Eb (affected Eg m) ≡ affected Eg (affected Eb m) =
     rw (q .is) (sym (effects-commute m (q .answer) (q .mask) (q .gpe0) (q .gpe1) Eg (kept .first) (kept .second))) in (
       orders-meet m g b (affected Eg m) (affected Eb m) (affected Eb (affected Eg m)) (g-m .1) (b-m .1) (g-m .0 ∙ still ∙ sym (g-b .0))

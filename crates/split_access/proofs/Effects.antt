@@ -23,10 +23,11 @@ use Rattle.machine.specs.Sleep.{isSleeping}
 use Rattle.model.specs.Raises.{bitsIf}
 use Rattle.model.specs.EventKinds.{EventKind, eventKind}
 use Rattle.model.specs.EventKinds as kind
-use Rattle.model.specs.Step.{refusalsBy, answerTo, accepted, after}
-use Rattle.model.proofs.EventBits.{Pair, pair-of}
+use Rattle.model.specs.Step.{answerTo, accepted, after}
+use Rattle.model.proofs.EventBits.{Pair, pair-of, answerBy}
 use Rattle.model.proofs.EventBits as pair
 use Rattle.model.proofs.Ticks.{ticks-awake}
+use Rattle.model.proofs.Turns.{turns-awake}
 use Rattle.model.specs.declared.Answer.{Answer}
 use Rattle.model.specs.declared.Answer.the-variants as answer
 use Rattle.model.specs.declared.Event.{Event}
@@ -34,7 +35,7 @@ use Rattle.model.specs.declared.Step.the-variants as step
 
 -- an event's effect, as a function of the button, hold and the counter, and of the general status bytes
 pub record Effect : Type 0 where
-  pub answer : Bool → Answer
+  pub answer : Bool → ℕ → ℕ → Answer
   pub mask : Bool → ℕ → ℕ → ℕ
   pub button : Bool → Bool
   pub hold : Bool → ℕ → ℕ → ℕ
@@ -47,7 +48,10 @@ abbrev pub lived : Machine → ℕ → Bool → ℕ → ℕ → List ℕ → Lis
 lived m mask button hold counter gpe0 gpe1 =
     withTime (withButton (withGpe (raised m mask) gpe0 (m .«gpe0_en») gpe1 (m .«gpe1_en»)) button hold) counter hold
 
--- the machine after an effect
+-- the answer with an effect, and the machine after it
+abbrev pub answered : Effect → Machine → Answer
+answered e m = e .answer (m .button) (m .hold) (m .counter)
+
 abbrev pub affected : Effect → Machine → Machine
 affected e m =
     lived m (e .mask (m .button) (m .hold) (m .counter)) (e .button (m .button)) (e .hold (m .button) (m .hold) (m .counter))
@@ -59,7 +63,7 @@ clockTicks s n b h c = clock.ticksOf (wideTimer s) b (s .«power_override») n (
 
 -- the answer, whether the event's PM1 bit is set, and what becomes of the button, hold and the counter
 pub record Live : Type 0 where
-  pub answer : Bool → Answer
+  pub answer : Bool → ℕ → ℕ → Answer
   pub sets : Bool → ℕ → ℕ → Bool
   pub button : Bool → Bool
   pub hold : Bool → ℕ → ℕ → ℕ
@@ -70,7 +74,7 @@ pub record Live : Type 0 where
 abbrev quiet : Answer → Bool → Live
 quiet a sets =
     record {
-      answer = λ b. a;
+      answer = λ b h c. a;
       sets = λ b h c. sets;
       button = λ b. b;
       hold = λ b h c. h;
@@ -88,7 +92,7 @@ fittedAnswer s bit = cond (not (isFitted s bit)) answer.NotFitted (answer.Done 0
 abbrev pub liveOf : Settings → StatusBit → EventKind → Live
 liveOf s bit kind.press =
     record {
-      answer = λ b. cond (not (isFitted s bit)) answer.NotFitted (cond b answer.ButtonAlready (answer.Done 0));
+      answer = λ b h c. cond (not (isFitted s bit)) answer.NotFitted (cond b answer.ButtonAlready (answer.Done 0));
       sets = λ b h c. isFitted s bit && not b;
       button = λ b. isFitted s bit || b;
       hold = λ b h c. cond (isFitted s bit && not b) 0 h;
@@ -97,7 +101,7 @@ liveOf s bit kind.press =
     }
 liveOf s bit kind.release =
     record {
-      answer = λ b. cond (not (isFitted s bit)) answer.NotFitted (cond (not b) answer.ButtonAlready (answer.Done 0));
+      answer = λ b h c. cond (not (isFitted s bit)) answer.NotFitted (cond (not b) answer.ButtonAlready (answer.Done 0));
       sets = λ b h c. false;
       button = λ b. not (isFitted s bit) && b;
       hold = λ b h c. h;
@@ -110,7 +114,7 @@ liveOf s bit kind.notice = quiet (answer.Done 0) true
 liveOf s bit (kind.general k) = quiet (cond (not (inGpe0 s k || inGpe1 s k)) answer.NoSuchEvent (answer.Done 0)) false
 liveOf s bit (kind.ticks n) =
     record {
-      answer = λ b. answer.Done 0;
+      answer = λ b h c. answer.Done (clockTicks s n b h c .turns);
       sets = λ b h c. fits s tmrBit && not (eqb (clockTicks s n b h c .turns) 0);
       button = λ b. b;
       hold = λ b h c. clockTicks s n b h c .hold;
@@ -145,17 +149,14 @@ effectOf s e = effectBy s (eventBit e) (eventKind e)
 
 -- ---- each kind
 
--- the answer to an event, and the machine after it, by its bit and its kind
-abbrev answerBy : Machine → StatusBit → EventKind → Answer
-answerBy m bit k = firstApplying (refusalsBy m bit k) (answer.Done 0)
-
+-- the machine after an event, by its bit and its kind
 abbrev afterBy : Machine → StatusBit → EventKind → Machine
 afterBy m bit k = cond (accepted (answerBy m bit k)) (doneBy m bit k) m
 
 -- the claim for one of them
 abbrev AffectsBy : Machine → StatusBit → EventKind → Type 0
 AffectsBy m bit k =
-    (answerBy m bit k ≡ effectBy (m .settings) bit k .answer (m .button)) × (afterBy m bit k ≡ affected (effectBy (m .settings) bit k) m)
+    (answerBy m bit k ≡ answered (effectBy (m .settings) bit k) m) × (afterBy m bit k ≡ affected (effectBy (m .settings) bit k) m)
 
 press-affects : (m : Machine) → m .state ≡ 0 → AffectsBy m (pm1 8) kind.press
 unfolding firstApplying pressOf inS5 isSleeping
@@ -221,7 +222,7 @@ module _ (m : Machine) (n : ℕ) (z : m .state ≡ 0) where
 
   ticks-affects : runOut ≡ false → AffectsBy m (pm1 0) (kind.ticks n)
   unfolding firstApplying timed tmrRaised
-  ticks-affects on = (refl, ticks-awake n m (awake-here m z) ∙ rw on refl)
+  ticks-affects on = (ap answer.Done (turns-awake n m (awake-here m z)), ticks-awake n m (awake-here m z) ∙ rw on refl)
 
   -- ticks bring no override, or end in S5
   ticks-on-or-off : (runOut ≡ false) ⊎ (afterBy m (pm1 0) (kind.ticks n) .state ≡ 5)
@@ -253,7 +254,7 @@ kind-affects (pair.ticks n) m z on = ticks-affects m n z on
 -- the claim for one event
 abbrev pub Affects : Machine → Event → Type 0
 Affects m e =
-    (answerTo m (step.Event e) ≡ effectOf (m .settings) e .answer (m .button)) × (after m (step.Event e) ≡ affected (effectOf (m .settings) e) m)
+    (answerTo m (step.Event e) ≡ answered (effectOf (m .settings) e) m) × (after m (step.Event e) ≡ affected (effectOf (m .settings) e) m)
 
 pub event-affects : (m : Machine) (e : Event) → m .state ≡ 0 → On m e → Affects m e
 unfolding effectOf answerTo after eventOf

@@ -52,7 +52,7 @@ half-commutes m g x z on p =
     let g-m = event-affects m g z on in
     let g-n = event-affects (p .n) g (p .same .state ∙ z) (on-same m (p .n) g (p .same) on) in
     let says : answerTo (p .n) (step.Event g) ≡ answerTo m (step.Event g) =
-    g-n .0 ∙ (rw (p .same .settings, p .same .button) refl) ∙ sym (g-m .0) in
+    g-n .0 ∙ (rw (p .same .settings, p .same .button, p .same .hold, p .same .counter) refl) ∙ sym (g-m .0) in
     let ends : after (p .n) (step.Event g) ≡ affected (effectOf (m .settings) g) (p .n) = g-n .1 ∙ (rw (p .same .settings) refl) in
     (rw (g-m .1) (p .shows), rw (p .half) says, rw (p .half, g-m .1) (ends ∙ sym (p .does)))
 

@@ -48,10 +48,7 @@ impl Machine {
             Step::Master => self.raise(BM).map(|()| 0),
             Step::Unlock => self.raise(GBL).map(|()| 0),
             Step::Event(number) => self.general_event(number).map(|()| 0),
-            Step::Tick(n) => {
-                self.tick(n);
-                Ok(0)
-            }
+            Step::Tick(n) => Ok(self.tick(n)),
             Step::Take => self.take(),
             Step::Drop => self.drop_release().map(|()| 0),
         };

@@ -75,16 +75,21 @@ fn enable_and_control_writes() {
 #[test]
 fn counter_turns() {
     for (flags, before, n, after, turns) in [
-        (0, 8_388_607, 1, 8_388_608, true),
-        (0, 16_777_215, 1, 0, true),
-        (0, 0, 8_388_607, 8_388_607, false),
-        (0, 8_388_607, 0, 8_388_607, false),
-        (1 << 8, 8_388_607, 1, 8_388_608, false),
+        (0, 8_388_607, 1, 8_388_608, 1),
+        (0, 16_777_215, 1, 0, 1),
+        (0, 0, 8_388_607, 8_388_607, 0),
+        (0, 8_388_607, 0, 8_388_607, 0),
+        (1 << 8, 8_388_607, 1, 8_388_608, 0),
+        // The most that one step can turn it, and the start below.
+        (0, 1, u32::MAX, 0, 512),
+        (0, 0, u32::MAX, 16_777_215, 511),
+        (1 << 8, 1, u32::MAX, 0, 2),
+        (1 << 8, 0, u32::MAX, u32::MAX, 1),
     ] {
         let mut machine = machine(flags);
         machine.counter = before;
-        machine.step(&Step::Tick(n));
-        assert_eq!((machine.counter, machine.status & TMR != 0), (after, turns));
+        assert_eq!(machine.step(&Step::Tick(n)), (0, turns));
+        assert_eq!((machine.counter, machine.status & TMR != 0), (after, turns > 0));
     }
 }
 
@@ -92,10 +97,13 @@ fn counter_turns() {
 fn held_button() {
     let mut machine = machine(0);
     machine.step(&Step::Press);
-    machine.step(&Step::Tick(HOLD_LIMIT - 1));
+    assert_eq!(machine.step(&Step::Tick(HOLD_LIMIT - 1)), (0, 1));
     assert_eq!((machine.hold, machine.state()), (HOLD_LIMIT - 1, 0));
-    machine.step(&Step::Tick(5));
-    assert_eq!((machine.counter, machine.status, machine.state()), (HOLD_LIMIT, TMR, 5));
+    // The counter is two ticks from its wrap, and the override comes with the first.
+    machine.counter = 16_777_214;
+    assert_eq!(machine.step(&Step::Tick(5)), (0, 0));
+    assert_eq!((machine.counter, machine.status, machine.state()), (16_777_215, TMR, 5));
+    assert_eq!(machine.step(&Step::Tick(5)), (0, 0));
 }
 
 #[test]
@@ -111,8 +119,8 @@ fn two_turns() {
     let mut singly = machine(0);
     singly.counter = 5;
     let mut at_once = singly.clone();
-    singly.tick_singly(1 << 24);
-    at_once.tick_at_once(1 << 24);
+    assert_eq!(singly.tick_singly(1 << 24), 2);
+    assert_eq!(at_once.tick_at_once(1 << 24), 2);
     assert_eq!((singly.counter, singly.status), (5, TMR));
     assert_eq!(singly, at_once);
 }
@@ -136,8 +144,7 @@ fn ticks_at_once_are_ticks() {
         singly.hold = HOLD_LIMIT - below(3_000) - u32::from(singly.hardware.power_override);
         let mut at_once = singly.clone();
         let n = below(3_000);
-        singly.tick_singly(n);
-        at_once.tick_at_once(n);
+        assert_eq!(singly.tick_singly(n), at_once.tick_at_once(n));
         assert_eq!(singly, at_once);
     }
 }

@@ -10,29 +10,33 @@ pub const HOLD_LIMIT: u32 = 14_318_180;
 const MANY: u32 = 256;
 
 impl Machine {
-    pub(crate) fn tick(&mut self, n: u32) {
+    /// How often the counter's top bit turned.
+    pub(crate) fn tick(&mut self, n: u32) -> u32 {
         if n < MANY {
-            self.tick_singly(n);
+            self.tick_singly(n)
         } else {
-            self.tick_at_once(n);
+            self.tick_at_once(n)
         }
     }
 
-    pub(crate) fn tick_singly(&mut self, n: u32) {
+    pub(crate) fn tick_singly(&mut self, n: u32) -> u32 {
+        let mut turns = 0;
         for _ in 0..n {
             if self.state != 0 {
-                return;
+                break;
             }
-            self.one_tick();
+            turns += u32::from(self.one_tick());
         }
+        turns
     }
 
-    /// In this order: counter, TMR, hold, override.
-    fn one_tick(&mut self) {
+    /// In this order: counter, TMR, hold, override. Whether the top bit turned.
+    fn one_tick(&mut self) -> bool {
         let top = 1u32 << (self.hardware.counter_bits - 1);
         let before = self.counter;
         self.counter = before.wrapping_add(1) & (top | (top - 1));
-        if (before ^ self.counter) & top != 0 {
+        let turned = (before ^ self.counter) & top != 0;
+        if turned {
             self.status |= TMR & self.hardware.fitted;
         }
         if self.down && self.hold < HOLD_LIMIT {
@@ -41,23 +45,22 @@ impl Machine {
                 self.power_override();
             }
         }
+        turned
     }
 
     /// The same for any n: the ticks that run are those up to the override.
-    pub(crate) fn tick_at_once(&mut self, n: u32) {
+    pub(crate) fn tick_at_once(&mut self, n: u32) -> u32 {
         if self.state != 0 {
-            return;
+            return 0;
         }
         let left = HOLD_LIMIT - self.hold;
         let overrides = self.down && self.hardware.power_override && left > 0 && n >= left;
         let run = if overrides { left } else { n };
+        let turns = self.turns(run);
 
-        // The top bit changes at each multiple of half the counter's size.
-        let half = 1u64 << (self.hardware.counter_bits - 1);
-        let before = u64::from(self.counter);
-        let after = before + u64::from(run);
-        self.counter = (after % (2 * half)) as u32;
-        if after / half != before / half {
+        let top = 1u32 << (self.hardware.counter_bits - 1);
+        self.counter = self.counter.wrapping_add(run) & (top | (top - 1));
+        if turns > 0 {
             self.status |= TMR & self.hardware.fitted;
         }
         if self.down {
@@ -65,6 +68,18 @@ impl Machine {
         }
         if overrides {
             self.power_override();
+        }
+        turns
+    }
+
+    /// The top bit turns where the counter reaches half its size or wraps, and then every half size.
+    fn turns(&self, run: u32) -> u32 {
+        let half = 1u32 << (self.hardware.counter_bits - 1);
+        let first = half - self.counter % half;
+        if run < first {
+            0
+        } else {
+            1 + (run - first) / half
         }
     }
 }

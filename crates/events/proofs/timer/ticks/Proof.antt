@@ -1,13 +1,15 @@
 -- `events::timer::ticks` meets its contract: n ticks in S0 are the clock's n ticks at once, and outside S0 they change nothing
--- (`model`'s ticks-awake and ticks-asleep). Assumes nothing.
-use mathlib.Core.Path.{sym, _∙_}
+-- (`model`'s ticks-awake and ticks-asleep, turns-awake and turns-asleep). Assumes nothing.
+use mathlib.Core.Path.{_≡_, sym, _∙_}
+use Prim.Native.Nat.{ℕ}
+use Rattle.machine.specs.declared.Machine.{Machine}
+use Rattle.model.specs.declared.Answer.the-variants as answer
+use Rattle.model.specs.declared.Stepped.{Stepped}
 use Rattle.model.proofs.Ticks.{ticks-awake, ticks-asleep}
+use Rattle.model.proofs.Turns.{turns-awake, turns-asleep}
 use borrow.Author.Needs.{needs}
 use Rattle.events.proofs.timer.ticks.Statement.{statement}
 use Rattle.events.proofs.timer.ticks.Tie as tie
-
-awake-requires : tie.Need-awake-requires
-awake-requires c κs = search needs
 
 wide-timer-requires : tie.Need-wide-timer-requires
 wide-timer-requires c κs = search needs
@@ -15,21 +17,31 @@ wide-timer-requires c κs = search needs
 ticks-requires : tie.Need-ticks-requires
 ticks-requires c κs = search needs
 
+awake-requires : tie.Need-awake-requires
+awake-requires c κs = search needs
+
 timed-requires : tie.Need-timed-requires
 timed-requires c κs = search needs
+
+-- the value and the machine
+both : {v w : ℕ} {x y : Machine} → v ≡ w → x ≡ y
+    → _≡_ {A = Stepped} (record { answer = answer.Done v; machine = x }) (record { answer = answer.Done w; machine = y })
+both p q = λ i. record { answer = answer.Done (p i); machine = q i }
 
 returns : tie.Need-returns
 returns c =
     let a = c .before .before .before .before .before .before .args in
-    simp (c .timed .ensures, c .before .ticks .ensures, c .before .before .wide-timer .ensures)
-    (sym (ticks-awake (a .n) (a .m) (sym (c .before .before .before .before .awake .ensures) ∙ c .before .before .before .if1 .taken)))
+    let up = sym (c .before .before .awake .ensures) ∙ c .before .if1 .taken in
+    simp (c .timed .ensures, c .before .before .before .ticks .ensures, c .before .before .before .before .wide-timer .ensures)
+    (both (sym (turns-awake (a .n) (a .m) up)) (sym (ticks-awake (a .n) (a .m) up)))
 
 returns-2 : tie.Need-returns-2
 returns-2 c =
-    let a = c .before .before .before .args in
-    sym (ticks-asleep (a .n) (a .m) (sym (c .before .awake .ensures) ∙ c .if1 .left))
+    let a = c .before .before .before .before .before .args in
+    let asleep = sym (c .before .awake .ensures) ∙ c .if1 .left in
+    both (sym (turns-asleep (a .n) (a .m) asleep)) (sym (ticks-asleep (a .n) (a .m) asleep))
 
 pub ticks-spec : {M : Type 1} → statement M
 ticks-spec =
     tie.close
-    (tie.spec awake-requires wide-timer-requires ticks-requires timed-requires returns returns-2)
+    (tie.spec wide-timer-requires ticks-requires awake-requires timed-requires returns returns-2)

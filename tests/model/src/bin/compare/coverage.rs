@@ -91,6 +91,13 @@ const OTHERS: &[&str] = &[
     "32 bits: top bit rises",
     "32 bits: top bit falls",
     "32 bits: turns hide each other",
+    "turns: 512, with 24 bits",
+    "turns: 2, with 32 bits",
+    "turns: counted without a timer",
+    "turns: none while asleep",
+    "turns: none in S5",
+    "turns: some, and the override",
+    "turns: the override stops them",
     "hold: one tick short of 4 seconds",
     "hold: override",
     "hold: override with ticks left over",
@@ -254,7 +261,7 @@ impl Coverage {
         for step in &steps {
             let before = machine.clone();
             let (answer, value) = machine.step(step);
-            self.step(&before, step, answer, &machine);
+            self.step(&before, step, answer, value, &machine);
             self.history(&mut history, &before, step, answer, value, &machine);
         }
         self.steps += steps.len() as u64;
@@ -336,7 +343,7 @@ impl Coverage {
         Ok(())
     }
 
-    fn step(&mut self, before: &Machine, step: &Step, answer: u8, after: &Machine) {
+    fn step(&mut self, before: &Machine, step: &Step, answer: u8, value: u32, after: &Machine) {
         let word = word(step);
         self.count(&format!("answer {answer}"));
         self.count(&format!("{word}: {answer}"));
@@ -358,7 +365,7 @@ impl Coverage {
             Step::Read { port, width } | Step::Write { port, width, .. } => {
                 self.count(&format!("{word} {}", register(&before.hardware, port, width)));
             }
-            Step::Tick(n) => self.ticks(before, n, after),
+            Step::Tick(n) => self.ticks(before, n, value, after),
             Step::Take => self.command(before),
             Step::Drop => {
                 self.count(if before.release { "release flag: dropped" } else { "release flag: none to drop" });
@@ -455,17 +462,24 @@ impl Coverage {
         }
     }
 
-    fn ticks(&mut self, before: &Machine, n: u32, after: &Machine) {
+    fn ticks(&mut self, before: &Machine, n: u32, turns: u32, after: &Machine) {
         self.count_if(n == 0, "tick 0");
         self.count_if(n == u32::MAX, "tick FFFFFFFF");
+        let bits = before.hardware.counter_bits;
+        let half = 1u64 << (bits - 1);
+        let passed = (u64::from(before.counter) + u64::from(n)) / half - u64::from(before.counter) / half;
+        self.count_if((1..=4).contains(&before.state) && passed > 0, "turns: none while asleep");
+        self.count_if(before.state == 5 && passed > 0, "turns: none in S5");
         if before.state != 0 || n == 0 {
             return;
         }
-        let bits = before.hardware.counter_bits;
-        let half = 1u64 << (bits - 1);
         self.count_if(!before.hardware.timer.present(), "tick without a timer");
+        self.count_if(!before.hardware.timer.present() && turns > 0, "turns: counted without a timer");
+        self.count_if(bits == 24 && turns == 512, "turns: 512, with 24 bits");
+        self.count_if(bits == 32 && turns == 2, "turns: 2, with 32 bits");
+        self.count_if(after.state == 5 && turns > 0, "turns: some, and the override");
+        self.count_if(after.state == 5 && passed > u64::from(turns), "turns: the override stops them");
         if after.state == 0 && before.hardware.fitted & TMR != 0 {
-            let turns = (u64::from(before.counter) + u64::from(n)) / half - u64::from(before.counter) / half;
             let risen = u64::from(after.counter) & half != 0;
             if turns % 2 == 1 {
                 self.count(&format!("{bits} bits: top bit {}", if risen { "rises" } else { "falls" }));

@@ -1,7 +1,6 @@
-use Rattle.model.specs.Step.{answerTo}
 use borrow.Author.Needs.{needs}
-use Rattle.events.proofs.answer.Statement.{statement}
-use Rattle.events.proofs.answer.Tie as tie
+use Rattle.events.proofs.refusal.Statement.{statement}
+use Rattle.events.proofs.refusal.Tie as tie
 
 enum-told : tie.Need-enum-told
 enum-told c = search needs
@@ -58,43 +57,34 @@ ticks-answer-requires : tie.Need-ticks-answer-requires
 ticks-answer-requires c κs = search needs
 
 returns : tie.Need-returns
-unfolding answerTo
 returns c = simp (c .button-answer .ensures, c .before .enum-told .given .1)
 
 returns-2 : tie.Need-returns-2
-unfolding answerTo
 returns-2 c = simp (c .button-answer2 .ensures, c .before .enum-told2 .given .1)
 
 returns-3 : tie.Need-returns-3
-unfolding answerTo
 returns-3 c = simp (c .fitted-answer .ensures, c .before .enum-told3 .given .1)
 
 returns-4 : tie.Need-returns-4
-unfolding answerTo
 returns-4 c = simp (c .fitted-answer2 .ensures, c .before .enum-told4 .given .1)
 
 returns-5 : tie.Need-returns-5
-unfolding answerTo
 returns-5 c = simp (c .fitted-answer3 .ensures, c .before .enum-told5 .given .1)
 
 returns-6 : tie.Need-returns-6
-unfolding answerTo
 returns-6 c = simp (c .awake-answer .ensures, c .before .enum-told6 .given .1)
 
 returns-7 : tie.Need-returns-7
-unfolding answerTo
 returns-7 c = simp (c .awake-answer2 .ensures, c .before .enum-told7 .given .1)
 
 returns-8 : tie.Need-returns-8
-unfolding answerTo
 returns-8 c = simp (c .general-answer .ensures, c .before .before .e .given .1)
 
 returns-9 : tie.Need-returns-9
-unfolding answerTo
 returns-9 c = simp (c .ticks-answer .ensures, c .before .enum-told8 .given .1)
 
-pub answer-spec : {M : Type 1} → statement M
-answer-spec =
+pub refusal-spec : {M : Type 1} → statement M
+refusal-spec =
     tie.close
     (tie.spec
     enum-told
