@@ -19,6 +19,8 @@ impl Machine {
         }
     }
 
+    /// Kept out of `step`, whose other steps it would slow down.
+    #[inline(never)]
     pub(crate) fn tick_singly(&mut self, n: u32) -> u32 {
         let mut turns = 0;
         for _ in 0..n {

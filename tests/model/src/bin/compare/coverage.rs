@@ -97,6 +97,7 @@ const OTHERS: &[&str] = &[
     "turns: none while asleep",
     "turns: none in S5",
     "turns: some, and the override",
+    "turns: by the tick of the override",
     "turns: the override stops them",
     "hold: one tick short of 4 seconds",
     "hold: override",
@@ -478,6 +479,7 @@ impl Coverage {
         self.count_if(bits == 24 && turns == 512, "turns: 512, with 24 bits");
         self.count_if(bits == 32 && turns == 2, "turns: 2, with 32 bits");
         self.count_if(after.state == 5 && turns > 0, "turns: some, and the override");
+        self.count_if(after.state == 5 && u64::from(after.counter) % half == 0, "turns: by the tick of the override");
         self.count_if(after.state == 5 && passed > u64::from(turns), "turns: the override stops them");
         if after.state == 0 && before.hardware.fitted & TMR != 0 {
             let risen = u64::from(after.counter) & half != 0;

@@ -233,6 +233,9 @@ impl Author<'_> {
     /// Down for just under 4 seconds; then more, or not.
     fn hold_the_button(&mut self) {
         if !self.machine.down {
+            if self.random.below(3) == 0 {
+                self.turn_at_the_override();
+            }
             self.go(Step::Press);
         }
         let left = HOLD_LIMIT - self.machine.hold;
@@ -247,6 +250,14 @@ impl Author<'_> {
             _ => {}
         }
         let n = self.random.pick(&[1, 1, 2, 4096, 1 << 24]);
+        self.go(Step::Tick(n));
+    }
+
+    /// So many ticks that, held from now on, the tick that brings the override turns the top bit, or the one beside it.
+    fn turn_at_the_override(&mut self) {
+        let half = 1u32 << (self.machine.hardware.counter_bits - 1);
+        let ahead = (self.machine.counter % half + HOLD_LIMIT % half) % half;
+        let n = (half - ahead).saturating_add_signed(self.random.pick(&[-1, 0, 0, 1]));
         self.go(Step::Tick(n));
     }
 
