@@ -143,10 +143,10 @@ rows =
     (left 0x0001 0 14318180 14318180 5) ∷
     -- "Port 65,536: 23"
     row allSet (read 0x10000 2 refused 23 ∷ write 0x10000 1 0xFF refused 23 ∷ []) (left 0xC731 0 0 0 0) ∷
-    -- W1: "at most 512 with 24 bits", and one tick's start below it
+    -- W1: "at most 512 with 24 bits": reached from 1, and not from 0
     row (counting narrow 1) (ticks 4294967295 gives 512 ∷ []) (left 0x0001 0 0 0 0) ∷
     row (counting narrow 0) (ticks 4294967295 gives 511 ∷ []) (left 0x0001 0 16777215 0 0) ∷
-    -- "at most 2 with 32 bits"
+    -- "at most 2 with 32 bits": likewise
     row (counting wide 1) (ticks 4294967295 gives 2 ∷ []) (left 0x0001 0 0 0 0) ∷
     row (counting wide 0) (ticks 4294967295 gives 1 ∷ []) (left 0x0001 0 4294967295 0 0) ∷
     -- two turns in one step: the top bit is as it was
