@@ -38,12 +38,12 @@ ghost use Rattle.model.specs.Step.{eventRefusals, stepOf};
 ghost use Rattle.model.specs.declared.Answer.the-variants as answer;
 ghost use Rattle.model.specs.declared.Step.the-variants as step;
 
-// The value is zero.
-fn no_value(machine: Machine) -> Stepped
-    ensures { λ r. ⌜ r ≡ record { answer = answer.Done 0; machine = machine } ⌝ }
+// Accepted, with the value.
+pub(crate) fn gives(value: u32, machine: Machine) -> Stepped
+    ensures { λ r. ⌜ r ≡ record { answer = answer.Done value; machine = machine } ⌝ }
 {
     Stepped {
-        answer: Answer::Done(0),
+        answer: Answer::Done(value),
         machine,
     }
 }
@@ -53,14 +53,14 @@ fn done(m: Machine, e: Event) -> Stepped
     ensures { λ r. ⌜ r ≡ record { answer = answer.Done (eventValue m e); machine = eventOf m e } ⌝ }
 {
     match e {
-        Event::Press => no_value(press(m)),
-        Event::Release => no_value(release(m)),
-        Event::SleepPress => no_value(signal(m, SLPBTN_STS, SLPBTN)),
-        Event::Alarm => no_value(signal(m, RTC_STS, RTC)),
-        Event::PcieWake => no_value(pcie_wake(m)),
-        Event::BusMaster => no_value(raise(m, BM)),
-        Event::Unlock => no_value(raise(m, GBL)),
-        Event::General(k) => no_value(general(m, k)),
+        Event::Press => gives(0, press(m)),
+        Event::Release => gives(0, release(m)),
+        Event::SleepPress => gives(0, signal(m, SLPBTN_STS, SLPBTN)),
+        Event::Alarm => gives(0, signal(m, RTC_STS, RTC)),
+        Event::PcieWake => gives(0, pcie_wake(m)),
+        Event::BusMaster => gives(0, raise(m, BM)),
+        Event::Unlock => gives(0, raise(m, GBL)),
+        Event::General(k) => gives(0, general(m, k)),
         Event::Ticks(n) => ticks(m, n),
     }
 }

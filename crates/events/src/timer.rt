@@ -1,12 +1,12 @@
 // Ticks of the PM timer.
 use crate::buttons::fits;
 use crate::buttons::raise;
+use crate::gives;
 use bits::pick16;
 use clock::Clock;
 use machine::Machine;
 use machine::TMR;
 use machine::awake;
-use model::Answer;
 use model::Stepped;
 use platform::Settings;
 ghost use mathlib.Core.Path.{_≡_};
@@ -50,16 +50,11 @@ pub(crate) fn ticks(m: Machine, n: u32) -> Stepped
 {
     let s = m.settings;
     let wide = platform::wide_timer(s);
+    // Outside S0 nothing of it is used.
     let t = clock::ticks(wide, m.button, s.power_override, m.counter, m.hold, n);
     if awake(m) {
-        Stepped {
-            answer: Answer::Done(t.turns),
-            machine: timed(m, t),
-        }
+        gives(t.turns, timed(m, t))
     } else {
-        Stepped {
-            answer: Answer::Done(0),
-            machine: m,
-        }
+        gives(0, m)
     }
 }

@@ -8,8 +8,7 @@ use Prim.Native.Nat.{ℕ}
 use borrow.Author.Tests.{eqb-true}
 use lib.Dec.{eqb}
 use Rattle.lists.proofs.Tests.{and-left, and-right}
-use Rattle.clock.specs.AtOnce.{ranOf, turnsIn, afterOf}
-use Rattle.clock.specs.Clock.{counterBits}
+use Rattle.clock.specs.AtOnce.{afterOf}
 use Rattle.platform.specs.Fitted.{wideTimer}
 use Rattle.machine.specs.Lines.{awake}
 use Rattle.machine.specs.declared.Machine.{Machine}
@@ -22,8 +21,8 @@ use Rattle.model.specs.declared.Answer.{Answer}
 use Rattle.model.specs.declared.Answer.the-variants as answer
 use Rattle.model.specs.declared.Step.{Step}
 use Rattle.model.specs.declared.Step.the-variants as step
-use Rattle.model.proofs.Ticks.{ticks-closed-form}
-use Rattle.model.proofs.Turns.{turns-closed-form}
+use Rattle.model.proofs.Ticks.{clock-closed-form, ticks-closed-form}
+use Rattle.model.proofs.Turns.{turns-at-once}
 use Rattle.marked_cases.specs.Rows.{Expected, Registers, Row, registersOf, Gives, Holds}
 
 -- ---- one step
@@ -31,10 +30,8 @@ use Rattle.marked_cases.specs.Rows.{Expected, Registers, Row, registersO
 -- what ticks give, and the machine after them
 ticksAtOnce : ℕ → Machine → ℕ × Machine
 ticksAtOnce n m =
-    let ran = ranOf (m .button) (m .settings .«power_override») (m .hold) n in (
-      cond (awake m) (turnsIn (counterBits (wideTimer (m .settings))) (m .counter) ran) 0,
-      cond (awake m) (timed m (afterOf (wideTimer (m .settings)) (m .button) (m .settings .«power_override») n (clockOf m))) m,
-    )
+    let t = afterOf (wideTimer (m .settings)) (m .button) (m .settings .«power_override») n (clockOf m) in
+    (cond (awake m) (t .turns) 0, cond (awake m) (timed m t) m)
 
 eventAtOnce : Machine → StatusBit → EventKind → ℕ × Machine
 eventAtOnce m bit kind.press = (0, doneBy m bit kind.press)
@@ -53,7 +50,7 @@ event-at-once m bit kind.signal = refl
 event-at-once m bit kind.pcieWake = refl
 event-at-once m bit kind.notice = refl
 event-at-once m bit (kind.general k) = refl
-event-at-once m bit (kind.ticks n) = rw (turns-closed-form n m, ticks-closed-form n m) refl
+event-at-once m bit (kind.ticks n) = rw (turns-at-once n m, clock-closed-form n m, ticks-closed-form n m) refl
 
 doneAtOnce : Machine → Step → ℕ × Machine
 doneAtOnce m (step.Read a) = (doneValue m (step.Read a), doneOf m (step.Read a))

@@ -18,9 +18,8 @@ use Rattle.model.specs.Control.{namesNone, setsSlpEn, typAfter, completes, bmRl
 use Rattle.model.specs.Events.{inS5, pressOf, tmrRaised, timed, tickedBy, turnsBy, eventOf}
 use Rattle.model.specs.Ports.{registerAt, offsetAt}
 use Rattle.machine.specs.declared.Machine.{Machine}
-use Rattle.model.specs.Step.{answerTo, after, stepOf}
+use Rattle.model.specs.Step.{ticks, answerTo, after, stepOf}
 use Rattle.model.specs.declared.Answer.the-variants as answer
-use Rattle.model.proofs.Readings.{ticks}
 use Rattle.marked_cases.specs.Platform.{platform, SetUpGives}
 use Rattle.marked_cases.specs.Rows.{Row, Holds, rows}
 use Rattle.marked_cases.proofs.Accepted.{set-up-gives}

@@ -1,4 +1,4 @@
--- The marked cases of document 01, "Values on each side", and request W1's limits: one list of rows, and what a row claims.
+-- The marked cases of document 01, "Values on each side", and request W1's cases: one list of rows, and what a row claims.
 -- That each row's claim holds is `marked-cases` of `proofs/Table.antt`.
 use mathlib.Core.Bool.{true, false}
 use mathlib.Core.List.{List, [], _∷_}
@@ -8,7 +8,7 @@ use Rattle.machine.specs.declared.Machine.{Machine}
 use Rattle.machine.specs.Fields.{withEvent, withButton, withSciEn, withTime, enter}
 use Rattle.machine.specs.PowerOn.{powerOn}
 use Rattle.model.specs.Answer.{stepNumber, stepValue}
-use Rattle.model.specs.Step.{stepOf}
+use Rattle.model.specs.Step.{ticks, stepOf}
 use Rattle.model.specs.declared.Event.the-variants as event
 use Rattle.model.specs.declared.Step.{Step}
 use Rattle.model.specs.declared.Step.the-variants as step
@@ -78,9 +78,6 @@ read port width = step.Read (record { port = port; width = width })
 
 abbrev write : ℕ → ℕ → ℕ → Step
 write port width written = step.Write (record { port = port; width = width }) written
-
-abbrev ticks : ℕ → Step
-ticks n = step.Event (event.Ticks n)
 
 -- the power-on machine, with a timer of 24 bits
 abbrev narrow : Machine

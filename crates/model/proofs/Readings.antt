@@ -19,7 +19,7 @@ use Rattle.model.specs.Events.{eventSource, inS5, pressOf, tickedBy, eve
 use Rattle.model.specs.Legal.{counterLegal}
 use Rattle.machine.specs.Lines.{awake}
 use Rattle.machine.specs.Sleep.{isSleeping, woken, restarted}
-use Rattle.model.specs.Step.{registerOf, answerTo, accepted, after}
+use Rattle.model.specs.Step.{registerOf, ticks, answerTo, accepted, after}
 use Rattle.model.specs.declared.Access.{Access}
 use Rattle.model.specs.declared.Event.the-variants as event
 use Rattle.model.specs.declared.Register.the-variants as register
@@ -50,9 +50,6 @@ timer-read-counter m a l r e = timer-read m a r e ∙ mod-eq-of-lt (ltb-true (m 
 
 abbrev pub press : Step
 press = step.Event event.Press
-
-abbrev pub ticks : ℕ → Step
-ticks n = step.Event (event.Ticks n)
 
 -- ticks are never refused
 pub ticks-done : (m : Machine) (n : ℕ) → after m (ticks n) ≡ tickedBy n m

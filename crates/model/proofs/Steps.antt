@@ -4,7 +4,7 @@
 use Prim.Native.Nat.{ℕ, _≤_, _<_}
 use mathlib.Core.Path.{_≡_, refl, sym, _∙_, ap}
 use mathlib.Core.Logic.{_↔_, _⊎_, inl, inr}
-use mathlib.Core.Bool.{Bool, true, false, not, cond, _&&_, and-false, false≢true}
+use mathlib.Core.Bool.{Bool, true, false, cond, _&&_, and-false, false≢true}
 use mathlib.Core.List.{List, [], _∷_}
 use native.Mathlib.Omega.{arith}
 use borrow.Author.Tests.{eqb-true, eqb-false, eq-eqb, ne-eqb, ltb-true}
@@ -174,7 +174,7 @@ module _ (last : Answer) where
           let none = rest (rw p at e) in
           (none .0, λ k. row-skipped l ls k p ∙ none .1 k)
 
--- which refusal is given does not hang on the value
+-- which refusal is given does not depend on the value
 value-apart : (v w : ℕ) (ls : List Refusal) (b : ℕ) → rising b ls ≡ true
     → firstApplying ls (answer.Done w) ≡ cond (accepted (firstApplying ls (answer.Done v))) (answer.Done w) (firstApplying ls (answer.Done v))
 unfolding firstApplying

@@ -16,8 +16,8 @@ use Rattle.machine.specs.declared.Machine.{Machine}
 use Rattle.platform.specs.Fitted.{wideTimer}
 use Rattle.model.specs.Answer.{stepValue, firstApplying}
 use Rattle.model.specs.Events.{clockOf, clockAfter, timerTop, timed, tickedOnce, tickedBy, turnedOnce, turnsBy}
-use Rattle.model.specs.Step.{answerTo, after}
-use Rattle.model.proofs.Readings.{ticks, ticks-done}
+use Rattle.model.specs.Step.{ticks, answerTo, after}
+use Rattle.model.proofs.Readings.{ticks-done}
 use Rattle.model.proofs.Ticks.{clockRun, clockTick, clock, timed-none, tick-timed, timed-settings, timed-counter, clock-closed-form}
 
 -- ---- one tick
@@ -61,7 +61,7 @@ unfolding turnsBy turnedOnce tickedOnce
 turns-asleep zero m e = refl
 turns-asleep (suc n) m e = rw (e, unturned (timerTop m), zero-add) (turns-asleep n m e)
 
--- all of them at once
+-- as the clock counts them
 pub turns-at-once : (n : ℕ) (m : Machine) → turnsBy n m ≡ cond (awake m) (clockAfter m n .turns) 0
 turns-at-once n m = go (awake m) refl
   where
@@ -69,7 +69,7 @@ turns-at-once n m = go (awake m) refl
     go true e = turns-awake n m e
     go false e = turns-asleep n m e
 
--- the same with no recursion over n: the multiples of half the counter's size that the ticks which run pass
+-- the same with no recursion over n: how many multiples of half the counter's size the ticks that run pass
 pub turns-closed-form : (n : ℕ) (m : Machine)
     → turnsBy n m
     ≡ cond (awake m) (turnsIn (counterBits (wideTimer (m .settings))) (m .counter) (ranOf (m .button) (m .settings .«power_override») (m .hold) n)) 0

@@ -17,6 +17,7 @@ use Rattle.model.specs.declared.Access.{Access}
 use Rattle.model.specs.declared.Answer.{Answer}
 use Rattle.model.specs.declared.Answer.the-variants as answer
 use Rattle.model.specs.declared.Event.{Event}
+use Rattle.model.specs.declared.Event.the-variants as event
 use Rattle.model.specs.declared.Register.{Register}
 use Rattle.model.specs.declared.Step.{Step}
 use Rattle.model.specs.declared.Step.the-variants as step
@@ -32,6 +33,10 @@ offsetOf m a = offsetAt (m .settings) (a .port)
 -- a bus access as a step
 abbrev pub busStep : Transfer → Step
 busStep t = cond (t .writes) (step.Write (t .access) (t .written)) (step.Read (t .access))
+
+-- n ticks as a step
+abbrev pub ticks : ℕ → Step
+ticks n = step.Event (event.Ticks n)
 
 -- ---- the lines of the table, by the kind of step
 

@@ -48,7 +48,7 @@ abbrev pub lived : Machine → ℕ → Bool → ℕ → ℕ → List ℕ → Lis
 lived m mask button hold counter gpe0 gpe1 =
     withTime (withButton (withGpe (raised m mask) gpe0 (m .«gpe0_en») gpe1 (m .«gpe1_en»)) button hold) counter hold
 
--- the answer with an effect, and the machine after it
+-- the answer that goes with an effect, and the machine after it
 abbrev pub answered : Effect → Machine → Answer
 answered e m = e .answer (m .button) (m .hold) (m .counter)
 

@@ -80,7 +80,7 @@ fn counter_turns() {
         (0, 0, 8_388_607, 8_388_607, 0),
         (0, 8_388_607, 0, 8_388_607, 0),
         (1 << 8, 8_388_607, 1, 8_388_608, 0),
-        // The most that one step can turn it, and the start below.
+        // The most that one step turns it: from 1, and not from 0.
         (0, 1, u32::MAX, 0, 512),
         (0, 0, u32::MAX, 16_777_215, 511),
         (1 << 8, 1, u32::MAX, 0, 2),
