@@ -78,7 +78,7 @@ turns-closed-form n m = rw (turns-at-once n m, clock-closed-form n m, zero-add)
 -- of a + b ticks they are those of a and then of b
 pub turns-add : (a b : ℕ) (m : Machine) → turnsBy a m + turnsBy b (tickedBy a m) ≡ turnsBy (a + b) m
 unfolding turnsBy tickedBy
-turns-add zero b m = rw (zero-add, zero-add)
+turns-add zero b m = zero-add (turnsBy b m) ∙ ap (λ (n : ℕ). turnsBy n m) (sym (zero-add b))
 turns-add (suc a) b m = rw (suc-add, add-assoc) (ap (λ (x : ℕ). turnedOnce m + x) (turns-add a b (tickedOnce m)))
 
 at-most : (n : ℕ) (m : Machine) → n < 2 ^ 32 → (t : Bool) → cond t (clockAfter m n .turns) 0 ≤ cond (wideTimer (m .settings)) 2 512
