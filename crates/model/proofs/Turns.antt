@@ -14,9 +14,10 @@ use Rattle.clock.proofs.ClosedForm.{turns-at-most as clock-turns-at-most}
 use Rattle.machine.specs.Lines.{awake}
 use Rattle.machine.specs.declared.Machine.{Machine}
 use Rattle.platform.specs.Fitted.{wideTimer}
-use Rattle.model.specs.Answer.{stepValue, firstApplying}
+use Rattle.model.specs.Answer.{firstApplying}
 use Rattle.model.specs.Events.{clockOf, clockAfter, timerTop, timed, tickedOnce, tickedBy, turnedOnce, turnsBy}
 use Rattle.model.specs.Step.{ticks, answerTo, after}
+use Rattle.model.specs.Turns.{turnsGiven, givenSingly}
 use Rattle.model.proofs.Readings.{ticks-done}
 use Rattle.model.proofs.Ticks.{clockRun, clockTick, clock, timed-none, tick-timed, timed-settings, timed-counter, clock-closed-form}
 
@@ -87,18 +88,11 @@ at-most n m l false = omega arith
 
 -- ---- the step's value
 
-abbrev pub turnsGiven : Machine → ℕ → ℕ
-turnsGiven m n = stepValue (answerTo m (ticks n))
-
 pub given-turns : (m : Machine) (n : ℕ) → turnsGiven m n ≡ turnsBy n m
 unfolding answerTo firstApplying
 given-turns m n = refl
 
--- "It equals the number of single ticks that turned the bit": the values of n steps of one tick, added up
-unfoldable pub givenSingly : Machine → ℕ → ℕ
-givenSingly m zero = 0
-givenSingly m (suc n) = turnsGiven m 1 + givenSingly (after m (ticks 1)) n
-
+-- "It equals the number of single ticks that turned the bit"
 pub turns-singly : (m : Machine) (n : ℕ) → turnsGiven m n ≡ givenSingly m n
 unfolding givenSingly turnsBy tickedBy
 turns-singly m zero = given-turns m 0

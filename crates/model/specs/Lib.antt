@@ -8,3 +8,4 @@ pub mod Firmware
 pub mod Step
 pub mod Raises
 pub mod Legal
+pub mod Turns
