@@ -101,17 +101,18 @@ ticks-asleep (suc n) m e = rw e (ticks-asleep n m e)
 pub ticks-awake : (n : ℕ) (m : Machine) → awake m ≡ true → tickedBy n m ≡ timed m (clockAfter m n)
 ticks-awake n m up = ap (tickedBy n) (sym (timed-none m)) ∙ ticks-timed m up n (clockOf m)
 
+-- the one where the test holds, and the other where it does not
+pub one-or-other : {A : Type 0} (t : Bool) {x y z : A} → (t ≡ true → x ≡ y) → (t ≡ false → x ≡ z) → x ≡ cond t y z
+one-or-other true p q = p refl
+one-or-other false p q = q refl
+
 -- "Tick, n times": all of them at once
 pub ticks-at-once : (n : ℕ) (m : Machine)
     → tickedBy n m
     ≡ cond (awake m)
     (timed m (clockTicks (wideTimer (m .settings)) (m .button) (m .settings .«power_override») n (clockOf m)))
     m
-ticks-at-once n m = go (awake m) refl
-  where
-    go : (t : Bool) → awake m ≡ t → tickedBy n m ≡ cond t (timed m (clockAfter m n)) m
-    go true e = ticks-awake n m e
-    go false e = ticks-asleep n m e
+ticks-at-once n m = one-or-other (awake m) (ticks-awake n m) (ticks-asleep n m)
 
 -- a + b ticks are a and then b
 pub ticks-add : (a b : ℕ) (m : Machine) → tickedBy (a + b) m ≡ tickedBy b (tickedBy a m)

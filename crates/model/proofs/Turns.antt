@@ -19,7 +19,7 @@ use Rattle.model.specs.Events.{clockOf, clockAfter, timerTop, timed, tic
 use Rattle.model.specs.Step.{ticks, answerTo, after}
 use Rattle.model.specs.Turns.{turnsGiven, givenSingly}
 use Rattle.model.proofs.Readings.{ticks-done}
-use Rattle.model.proofs.Ticks.{clockRun, clockTick, clock, timed-none, tick-timed, timed-settings, timed-counter, clock-closed-form}
+use Rattle.model.proofs.Ticks.{clockRun, clockTick, clock, timed-none, tick-timed, one-or-other, timed-settings, timed-counter, clock-closed-form}
 
 -- ---- one tick
 
@@ -64,11 +64,7 @@ turns-asleep (suc n) m e = rw (e, unturned (timerTop m), zero-add) (turns-asleep
 
 -- as the clock counts them
 pub turns-at-once : (n : ℕ) (m : Machine) → turnsBy n m ≡ cond (awake m) (clockAfter m n .turns) 0
-turns-at-once n m = go (awake m) refl
-  where
-    go : (t : Bool) → awake m ≡ t → turnsBy n m ≡ cond t (clockAfter m n .turns) 0
-    go true e = turns-awake n m e
-    go false e = turns-asleep n m e
+turns-at-once n m = one-or-other (awake m) (turns-awake n m) (turns-asleep n m)
 
 -- the same with no recursion over n: how many multiples of half the counter's size the ticks that run pass
 pub turns-closed-form : (n : ℕ) (m : Machine)
