@@ -175,7 +175,7 @@ tickedBy (suc n) m = tickedBy n (tickedOnce m)
 abbrev pub timerTop : Machine → ℕ
 timerTop m = topBit (counterBits (wideTimer (m .settings))) (m .counter)
 
--- 1 for a "single tick that turned the bit", else 0
+-- 1 for one of the "single ticks that turned the bit", else 0
 unfoldable pub turnedOnce : Machine → ℕ
 turnedOnce m = cond (eqb (timerTop (tickedOnce m)) (timerTop m)) 0 1
 
