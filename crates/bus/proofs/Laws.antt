@@ -13,6 +13,7 @@ use Rattle.bits.specs.Writes.{byteAt}
 use Rattle.registers.specs.Registers.{laneAt, oneByte, shown, inStatus, inEnable, statusAfter, enableAfter, coversLow, coversHigh, gpeHalf, inGpeStatus, gpeStsCleared, gpeEnTaken, gpeStsAfter, gpeEnAfter}
 use Rattle.machine.specs.declared.Machine.{Machine}
 use Rattle.machine.specs.Fields.{withGpe}
+use Rattle.machine.specs.Lines.{walked}
 use Rattle.model.specs.Answer.{firstApplying}
 use Rattle.model.specs.Bus.{dataTooWide, gpeWritten, readOf, writeOf}
 use Rattle.model.specs.Control.{controlWritten, setsSlpEn, typAfter, completes, armedAfter, namesNone, bmRldAfter, gblRlsAfter}
@@ -71,25 +72,25 @@ accepted-fits m a written e =
 module _ (m : Machine) (b : Bool) (offset written : ℕ) where
   pub status-byte-written : inGpeStatus (m .settings) b offset ≡ true
       → gpeWritten m b offset written
-      ≡ withGpe m (cond b (m .«gpe0_sts») (gpeStsCleared m b offset written)) (m .«gpe0_en») (cond b (gpeStsCleared m b offset written) (m .«gpe1_sts»)) (m .«gpe1_en»)
+      ≡ walked (withGpe m (cond b (m .«gpe0_sts») (gpeStsCleared m b offset written)) (m .«gpe0_en») (cond b (gpeStsCleared m b offset written) (m .«gpe1_sts»)) (m .«gpe1_en») (m .«gpe_pending»))
   unfolding gpeStsAfter gpeEnAfter
   status-byte-written = go b
     where
       go : (b : Bool) → inGpeStatus (m .settings) b offset ≡ true
           → gpeWritten m b offset written
-          ≡ withGpe m (cond b (m .«gpe0_sts») (gpeStsCleared m b offset written)) (m .«gpe0_en») (cond b (gpeStsCleared m b offset written) (m .«gpe1_sts»)) (m .«gpe1_en»)
+          ≡ walked (withGpe m (cond b (m .«gpe0_sts») (gpeStsCleared m b offset written)) (m .«gpe0_en») (cond b (gpeStsCleared m b offset written) (m .«gpe1_sts»)) (m .«gpe1_en») (m .«gpe_pending»))
       go true e = rw e refl
       go false e = rw e refl
 
   pub enable-byte-written : inGpeStatus (m .settings) b offset ≡ false
       → gpeWritten m b offset written
-      ≡ withGpe m (m .«gpe0_sts») (cond b (m .«gpe0_en») (gpeEnTaken m b offset written)) (m .«gpe1_sts») (cond b (gpeEnTaken m b offset written) (m .«gpe1_en»))
+      ≡ walked (withGpe m (m .«gpe0_sts») (cond b (m .«gpe0_en») (gpeEnTaken m b offset written)) (m .«gpe1_sts») (cond b (gpeEnTaken m b offset written) (m .«gpe1_en»)) (m .«gpe_pending»))
   unfolding gpeStsAfter gpeEnAfter
   enable-byte-written = go b
     where
       go : (b : Bool) → inGpeStatus (m .settings) b offset ≡ false
           → gpeWritten m b offset written
-          ≡ withGpe m (m .«gpe0_sts») (cond b (m .«gpe0_en») (gpeEnTaken m b offset written)) (m .«gpe1_sts») (cond b (gpeEnTaken m b offset written) (m .«gpe1_en»))
+          ≡ walked (withGpe m (m .«gpe0_sts») (cond b (m .«gpe0_en») (gpeEnTaken m b offset written)) (m .«gpe1_sts») (cond b (gpeEnTaken m b offset written) (m .«gpe1_en»)) (m .«gpe_pending»))
       go true e = rw e refl
       go false e = rw e refl
 

@@ -79,23 +79,6 @@ fn is_enabled(xs: [u8; GPE_BYTES], k: u64) -> bool
     }
 }
 
-fn general_raised(mut m: Machine, k: u32) -> Machine
-    ensures { λ r. ⌜ r ≡ generalRaised m k ⌝ }
-{
-    let s = m.settings;
-    let sts0 = m.gpe0_sts;
-    let sts1 = m.gpe1_sts;
-    if in_gpe0(s, k) {
-        let raised = with_bit(sts0, k as u64);
-        m.gpe0_sts = raised;
-        m
-    } else {
-        let raised = with_bit(sts1, number_in(s, k));
-        m.gpe1_sts = raised;
-        m
-    }
-}
-
 fn general_enabled(m: Machine, k: u32) -> bool
     ensures { λ r. ⌜ r ≡ generalEnabled m k ⌝ }
 {
@@ -106,6 +89,26 @@ fn general_enabled(m: Machine, k: u32) -> bool
         is_enabled(en0, k as u64)
     } else {
         is_enabled(en1, number_in(s, k))
+    }
+}
+
+// Its bit is set; where it is enabled, one is pending.
+fn general_raised(mut m: Machine, k: u32) -> Machine
+    ensures { λ r. ⌜ r ≡ generalRaised m k ⌝ }
+{
+    let s = m.settings;
+    let sts0 = m.gpe0_sts;
+    let sts1 = m.gpe1_sts;
+    let pending = general_enabled(m, k) | m.gpe_pending;
+    m.gpe_pending = pending;
+    if in_gpe0(s, k) {
+        let raised = with_bit(sts0, k as u64);
+        m.gpe0_sts = raised;
+        m
+    } else {
+        let raised = with_bit(sts1, number_in(s, k));
+        m.gpe1_sts = raised;
+        m
     }
 }
 

@@ -4,7 +4,7 @@ use Rattle.platform.specs.Answer.{ifDone, firstFailing}
 use Rattle.platform.specs.Legal.{strayLength}
 use Rattle.platform.specs.Rules.{settingsRules}
 use Rattle.machine.specs.declared.Machine.{Machine}
-use Rattle.model.specs.Legal.{statusLegal, enablesLegal, gpeLegal, arbDisLegal, stateLegal, counterLegal, holdLegal, buttonLegal, commandLegal, armedLegal, slpTypBLegal, commandByteLegal, slpTypsLegal}
+use Rattle.model.specs.Legal.{statusLegal, enablesLegal, gpeLegal, arbDisLegal, stateLegal, counterLegal, holdLegal, buttonLegal, commandLegal, armedLegal, slpTypBLegal, commandByteLegal, slpTypsLegal, gpePendingLegal}
 use Rattle.legality.specs.declared.Clause.{Clause}
 use Rattle.legality.specs.declared.Clause.the-variants as clause
 use Rattle.legality.specs.declared.Legality.{Legality}
@@ -14,7 +14,7 @@ use Rattle.legality.specs.declared.Legality.the-variants as legality
 unfoldable pub oneValue : Machine → Bool
 oneValue m = not (strayLength (m .settings .«pm1b_evt»)) && not (strayLength (m .settings .«pm1b_cnt»)) && commandByteLegal m && slpTypsLegal m
 
--- the list from "no unfitted or reserved bit" on
+-- the list from "no unfitted or reserved bit" on; last request W7's "A legal machine has it right"
 unfoldable pub afterSettings : Machine → Legality
 afterSettings m =
     cond (not (statusLegal m)) (legality.Breaks clause.Status)
@@ -29,7 +29,8 @@ afterSettings m =
     (cond (not (armedLegal m)) (legality.Breaks clause.Armed)
     (cond (not (slpTypBLegal m)) (legality.Breaks clause.SlpTypB)
     (cond (not (oneValue m)) (legality.Breaks clause.OneValue)
-    legality.Legal)))))))))))
+    (cond (not (gpePendingLegal m)) (legality.Breaks clause.GpePending)
+    legality.Legal))))))))))))
 
 -- "settings pass rules 5 to 12": the first that refuses; then the other clauses
 unfoldable pub legalityOf : Machine → Legality

@@ -18,7 +18,7 @@ ghost use lib.ListN.{getD, drop};
 ghost use Rattle.lists.specs.Any.{any};
 ghost use Rattle.sleep.specs.Pairs.{absent};
 ghost use Rattle.platform.specs.Legal.{strayLength};
-ghost use Rattle.model.specs.Legal.{onlyIf, absentPair, statusLegal, enablesLegal, bytesLegal, gpeLegal, arbDisLegal, stateLegal, counterLegal, holdLegal, buttonLegal, commandLegal, armedLegal, slpTypBLegal, slpTypsLegal};
+ghost use Rattle.model.specs.Legal.{onlyIf, absentPair, statusLegal, enablesLegal, bytesLegal, gpeLegal, arbDisLegal, stateLegal, counterLegal, holdLegal, buttonLegal, commandLegal, armedLegal, slpTypBLegal, slpTypsLegal, gpePendingLegal};
 ghost use Rattle.legality.specs.declared.Legality.the-variants as legality;
 ghost use Rattle.legality.specs.Legality.{oneValue, afterSettings, legalityOf};
 
@@ -191,6 +191,13 @@ fn one_value(m: Machine) -> bool
         & slp_typs_legal(m)
 }
 
+fn gpe_pending_legal(m: Machine) -> bool
+    ensures { λ r. ⌜ r ≡ gpePendingLegal m ⌝ }
+{
+    let found = m.walk_gpe();
+    m.gpe_pending == found.gpe_pending
+}
+
 // A clause, and those after it.
 fn unless(kept: bool, clause: Clause, rest: Legality) -> Legality
     ensures { λ r. ⌜ r ≡ cond (not kept) (legality.Breaks clause) rest ⌝ }
@@ -202,7 +209,8 @@ fn unless(kept: bool, clause: Clause, rest: Legality) -> Legality
 fn after_settings(m: Machine) -> Legality
     ensures { λ r. ⌜ r ≡ afterSettings m ⌝ }
 {
-    let all = unless(one_value(m), Clause::OneValue, Legality::Legal);
+    let all = unless(gpe_pending_legal(m), Clause::GpePending, Legality::Legal);
+    let all = unless(one_value(m), Clause::OneValue, all);
     let all = unless(slp_typ_b_legal(m), Clause::SlpTypB, all);
     let all = unless(armed_legal(m), Clause::Armed, all);
     let all = unless(command_legal(m), Clause::Command, all);

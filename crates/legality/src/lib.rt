@@ -36,4 +36,6 @@ pub enum Clause {
     SlpTypB,
     // one value for each meaning: no text can break it
     OneValue,
+    // request W7, "A legal machine has it right": what is stored is what the walk over the general event bytes finds; no text can break it
+    GpePending,
 }

@@ -12,9 +12,9 @@ use Rattle.machine.specs.declared.Machine.{Machine}
 abbrev pub pm1Cells : Machine → ℕ × ℕ
 pm1Cells m = (m .«pm1_sts», m .«pm1_en»)
 
--- status and enables of GPE0, then of GPE1
-abbrev pub gpeCells : Machine → List ℕ × List ℕ × List ℕ × List ℕ
-gpeCells m = (m .«gpe0_sts», m .«gpe0_en», m .«gpe1_sts», m .«gpe1_en»)
+-- status and enables of GPE0, then of GPE1, and whether a status bit is set together with its enable
+abbrev pub gpeCells : Machine → List ℕ × List ℕ × List ℕ × List ℕ × Bool
+gpeCells m = (m .«gpe0_sts», m .«gpe0_en», m .«gpe1_sts», m .«gpe1_en», m .«gpe_pending»)
 
 -- the counter, hold, and whether the power button is down
 abbrev pub timeAndButton : Machine → ℕ × ℕ × Bool
@@ -32,8 +32,8 @@ controlCells m = (m .«sci_en», m .«bm_rld», m .«gbl_rls», m .«slp_typ_a»
 abbrev pub mode : Machine → Bool × ℕ
 mode m = (m .armed, m .state)
 
-abbrev pub made : Settings → ℕ × ℕ → List ℕ × List ℕ × List ℕ × List ℕ → ℕ × ℕ × Bool → Bool × ℕ → Bool × Bool × Bool × ℕ × ℕ × Bool → Bool × ℕ → Machine
-made s (pm1-sts, pm1-en) (gpe0-sts, gpe0-en, gpe1-sts, gpe1-en) (counter, hold, button) (command-waits, command) (sci-en, bm-rld, gbl-rls, slp-typ-a, slp-typ-b, arb-dis) (armed, state) =
+abbrev pub made : Settings → ℕ × ℕ → List ℕ × List ℕ × List ℕ × List ℕ × Bool → ℕ × ℕ × Bool → Bool × ℕ → Bool × Bool × Bool × ℕ × ℕ × Bool → Bool × ℕ → Machine
+made s (pm1-sts, pm1-en) (gpe0-sts, gpe0-en, gpe1-sts, gpe1-en, gpe-pending) (counter, hold, button) (command-waits, command) (sci-en, bm-rld, gbl-rls, slp-typ-a, slp-typ-b, arb-dis) (armed, state) =
     record {
       settings = s;
       «pm1_sts» = pm1-sts;
@@ -55,6 +55,7 @@ made s (pm1-sts, pm1-en) (gpe0-sts, gpe0-en, gpe1-sts, gpe1-en) (counter, hold, 
       «bm_rld» = bm-rld;
       «arb_dis» = arb-dis;
       state = state;
+      «gpe_pending» = gpe-pending;
     }
 
 -- ---- the setters
@@ -67,9 +68,9 @@ abbrev pub withEvent : Machine → ℕ → ℕ → Machine
 withEvent m pm1-sts pm1-en = made (m .settings) (pm1-sts, pm1-en) (gpeCells m) (timeAndButton m) (commandLatch m) (controlCells m) (mode m)
 
 -- the general event cells
-abbrev pub withGpe : Machine → List ℕ → List ℕ → List ℕ → List ℕ → Machine
-withGpe m gpe0-sts gpe0-en gpe1-sts gpe1-en =
-    made (m .settings) (pm1Cells m) (gpe0-sts, gpe0-en, gpe1-sts, gpe1-en) (timeAndButton m) (commandLatch m) (controlCells m) (mode m)
+abbrev pub withGpe : Machine → List ℕ → List ℕ → List ℕ → List ℕ → Bool → Machine
+withGpe m gpe0-sts gpe0-en gpe1-sts gpe1-en gpe-pending =
+    made (m .settings) (pm1Cells m) (gpe0-sts, gpe0-en, gpe1-sts, gpe1-en, gpe-pending) (timeAndButton m) (commandLatch m) (controlCells m) (mode m)
 
 -- the PM1 control cells that a guest writes, the release flag and arming
 abbrev pub withControl : Machine → Bool → Bool → ℕ → ℕ → Bool → Machine

@@ -5,6 +5,7 @@ use Prim.Native.Nat.{ℕ}
 use lib.Bits.{bitAnd}
 use lib.Dec.{eqb}
 use Rattle.machine.specs.declared.Machine.{Machine}
+use Rattle.machine.specs.Fields.{withGpe}
 use Rattle.machine.specs.Status.{hasBit}
 
 -- "Awake is S0": document 01's word for the working state
@@ -17,17 +18,21 @@ anyEnabled [] es = false
 anyEnabled (s ∷ ss) [] = false
 anyEnabled (s ∷ ss) (e ∷ es) = hasBit s e || anyEnabled ss es
 
--- "any GPE status and enable"
+-- "any GPE status and enable": request W7's "walk over all general event bytes, which remains the definition"
 abbrev pub gpeEvent : Machine → Bool
 gpeEvent m = anyEnabled (m .«gpe0_sts») (m .«gpe0_en») || anyEnabled (m .«gpe1_sts») (m .«gpe1_en»)
+
+-- the machine with the walk's answer stored
+abbrev pub walked : Machine → Machine
+walked m = withGpe m (m .«gpe0_sts») (m .«gpe0_en») (m .«gpe1_sts») (m .«gpe1_en») (gpeEvent m)
 
 -- "(PM1 status and enable and 0721 hex)": the bits of TMR_EN, GBL_EN, PWRBTN_EN, SLPBTN_EN and RTC_EN (`event-enables` of `acpi/proofs/Masks.antt`)
 abbrev pub pm1Event : Machine → Bool
 pm1Event m = hasBit (bitAnd (m .«pm1_sts») (m .«pm1_en»)) 0x0721
 
--- "Event output"
+-- "Event output"; W7: "store in the machine whether any enabled general status bit is set, and take the lines from that"
 abbrev pub eventOutput : Machine → Bool
-eventOutput m = pm1Event m || gpeEvent m
+eventOutput m = pm1Event m || m .«gpe_pending»
 
 -- "In S0, SCI is SCI_EN and event"; "Outside S0 both are down"
 unfoldable pub sciOf : Machine → Bool

@@ -13,7 +13,6 @@ use Rattle.machine.specs.declared.sleeping.WakeSource.the-variants as so
 use Rattle.platform.specs.declared.settings.Settings.{Settings}
 use Rattle.machine.specs.Status.{pwrbtnBit, slpbtnBit, rtcBit, wakBit, hasBit}
 use Rattle.machine.specs.Fields.{withEvent, withGpe, withControl, withCommand, withArbDis, withSciEn, enter}
-use Rattle.machine.specs.Lines.{gpeEvent}
 
 -- S1 to S4
 unfoldable pub isSleeping : ℕ → Bool
@@ -33,7 +32,7 @@ wokenIf source test m = cond (isSleeping (m .state) && test) (woken source m) m
 
 -- "one of the enabled bits 8, 9, 10 .. or an enabled GPE is already set"
 unfoldable pub pending : Machine → ℕ → Bool
-pending m state = hasBit (bitAnd (m .«pm1_sts») (m .«pm1_en»)) (wakeBits (m .settings) state) || gpeEvent m
+pending m state = hasBit (bitAnd (m .«pm1_sts») (m .«pm1_en»)) (wakeBits (m .settings) state) || m .«gpe_pending»
 
 -- "If on completing S1 to S4 .. already set, the machine wakes in the same step."
 unfoldable pub completed : Machine → ℕ → Machine
@@ -49,7 +48,7 @@ restarted m =
     (withControl
     (withGpe
     (withEvent m 0 0)
-    noBytes noBytes noBytes noBytes)
+    noBytes noBytes noBytes noBytes false)
     false false 0 0 false)
     false 0)
     false)

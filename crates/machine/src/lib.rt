@@ -64,6 +64,8 @@ pub struct Machine {
     pub arb_dis: bool,
     // 0 to 5 for S0 to S5
     pub state: u8,
+    // whether a GPE status bit is set together with its enable; SCI, SMI and completing take it from here and look at no byte
+    pub gpe_pending: bool,
 }
 
 pub struct SetUp {
@@ -96,6 +98,7 @@ fn blank(settings: Settings) -> Machine
         bm_rld: false,
         arb_dis: false,
         state: 0,
+        gpe_pending: false,
     }
 }
 

@@ -1,7 +1,6 @@
 // Sleep and wake.
 use crate::GPE_BYTES;
 use crate::Machine;
-use crate::lines::gpe_event;
 use crate::status::PWRBTN;
 use crate::status::RTC;
 use crate::status::SLPBTN;
@@ -41,7 +40,7 @@ fn pending(machine: Machine, state: u8) -> bool
     ensures { λ r. ⌜ r ≡ pending machine state ⌝ }
 {
     let settings = machine.settings;
-    has_bit(machine.pm1_sts & machine.pm1_en, wake_bits(settings, state)) | gpe_event(machine)
+    has_bit(machine.pm1_sts & machine.pm1_en, wake_bits(settings, state)) | machine.gpe_pending
 }
 
 impl Machine {
@@ -91,6 +90,7 @@ impl Machine {
         self.gpe0_en = [0; GPE_BYTES];
         self.gpe1_sts = [0; GPE_BYTES];
         self.gpe1_en = [0; GPE_BYTES];
+        self.gpe_pending = false;
         self.command_waits = false;
         self.command = 0;
         self.gbl_rls = false;

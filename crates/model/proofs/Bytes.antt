@@ -9,7 +9,7 @@ use native.Mathlib.Nat.{mod-lt}
 use native.Mathlib.Omega.{arith}
 use borrow.Author.Tests.{eqb-true, ltb-true, ltb-false, leb-false, lt-leb, not-true}
 use lib.Bits.{or-lt}
-use lib.Dec.{eqb, ltb, leb}
+use lib.Dec.{eqb, ltb, leb, lit≤}
 use lib.ListN.{length, getD, drop, set, length-set}
 use lib.Pow.{pow-lt, pow-pos}
 use lib.Seq.{getD-drop, getD-set-other}
@@ -18,6 +18,7 @@ use Rattle.lists.proofs.Tests.{or-left, or-right, and-left, and-right}
 use Rattle.bits.proofs.Writes.{kept-lt}
 use Rattle.platform.specs.Blocks.{present}
 use Rattle.platform.specs.Legal.{HasGpeLength, HasNone}
+use Rattle.platform.specs.Rules.{gpeLongest}
 use Rattle.platform.specs.declared.block.Block.{Block}
 use Rattle.registers.specs.Registers.{gpeHalf, gpeSts, gpeEn, inGpeStatus, gpeStsAfter, gpeEnAfter}
 use Rattle.machine.specs.PowerOn.{gpeBytes, noBytes}
@@ -110,6 +111,17 @@ even-length b some none = go (present b) refl
     go : (t : Bool) → present b ≡ t → b .length % 2 ≡ 0
     go true e = some e .0
     go false e = rw (none e) refl
+
+-- and at most the longest, so that an event of the block has a byte
+pub gpe-at-most : (b : Block) → HasGpeLength b → HasNone b → b .length ≤ gpeLongest
+gpe-at-most b some none = go (present b) refl
+  where
+    go : (t : Bool) → present b ≡ t → b .length ≤ gpeLongest
+    go true e = some e .2
+    go false e = rw (none e) (lit≤ tt)
+
+pub event-byte : (size own : ℕ) (xs : List ℕ) (k : ℕ) → size ≤ gpeLongest → k < 4 * size → Bytes own xs → k / 8 < length xs
+event-byte size own xs k most h b = rw (b .size) (omega arith)
 
 module _ (m : Machine) (b : Bool) (offset written : ℕ) where
   pub status-written : Bytes (gpeHalf (m .settings) b) (gpeSts m b) → Bytes (gpeHalf (m .settings) b) (gpeStsAfter m b offset written)

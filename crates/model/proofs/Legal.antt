@@ -1,7 +1,7 @@
 -- Setting up gives legal machines, and every step keeps them legal. Each clause is kept by each change that the rules make, and so,
 -- by `kept-by-steps`, by every step. What a table of bytes gives fits its types, and no step changes a setting.
 -- Assumes nothing.
-use mathlib.Core.Bool.{Bool, true, false, not, cond, _&&_, _||_, or-true, false≢true}
+use mathlib.Core.Bool.{Bool, true, false, not, cond, _&&_, _||_, or-true, or-assoc, Bool·beq, false≢true}
 use mathlib.Core.List.{List}
 use mathlib.Core.Path.{_≡_, refl, sym, _∙_, ap}
 use Prim.Native.Nat.{ℕ, _+_, _-_, _/_, _%_, _^_, _≤_, _<_, min}
@@ -23,24 +23,25 @@ use Rattle.platform.specs.declared.rules.SetUpAnswer.the-variants as answer
 use Rattle.platform.specs.declared.settings.Settings.{Settings}
 use Rattle.platform.proofs.Legal.{legal-guaranteed}
 use Rattle.fadt.specs.Fields.{byte, settingsOf}
-use Rattle.machine.specs.Status.{wakBit}
+use Rattle.machine.specs.Status.{wakBit, hasBit}
 use Rattle.registers.specs.Registers.{hasPm1bCnt}
-use Rattle.machine.specs.Lines.{awake}
-use Rattle.machine.specs.PowerOn.{powerOn}
+use Rattle.machine.specs.Lines.{awake, anyEnabled, gpeEvent}
+use Rattle.machine.specs.PowerOn.{noBytes, powerOn}
 use Rattle.machine.specs.SetUp.{setUpOf}
 use Rattle.machine.specs.Sleep.{isSleeping}
 use Rattle.machine.specs.declared.Machine.{Machine}
 use Rattle.machine.proofs.Accepted.{accepted-machine, accepted-legal}
+use Rattle.machine.proofs.AnyEnabled.{or-swapped, walk-with-bit}
 use Rattle.model.specs.Bus.{gpeWritten}
-use Rattle.model.specs.Events.{inS5, inGpe0, inGpe1, generalRaised}
-use Rattle.model.specs.Legal.{onlyIf, statusLegal, enablesLegal, bytesLegal, gpeLegal, arbDisLegal, stateAllowed, stateLegal, counterLegal, holdLegal, buttonLegal, commandLegal, armedLegal, slpTypBLegal, commandByteLegal, slpTypsLegal, listed, notTwo, settingsFit, fitsTypes, legal}
+use Rattle.model.specs.Events.{inS5, inGpe0, inGpe1, withBit, isEnabled, generalEnabled, generalRaised}
+use Rattle.model.specs.Legal.{onlyIf, statusLegal, enablesLegal, bytesLegal, gpeLegal, arbDisLegal, stateAllowed, stateLegal, counterLegal, holdLegal, buttonLegal, commandLegal, armedLegal, slpTypBLegal, commandByteLegal, slpTypsLegal, gpePendingLegal, listed, notTwo, settingsFit, fitsTypes, legal}
 use Rattle.model.specs.Step.{after}
 use Rattle.model.specs.declared.Step.{Step}
-use Rattle.model.proofs.Bytes.{Bytes, bytes-mean, mean-bytes, no-bytes, bytes-with-bit, even-length, status-written, enable-written}
+use Rattle.model.proofs.Bytes.{Bytes, bytes-mean, mean-bytes, no-bytes, bytes-with-bit, even-length, gpe-at-most, event-byte, status-written, enable-written}
 use Rattle.model.proofs.Fits.{set-up-fits}
 use Rattle.model.proofs.Fitted.{zero-within, or-within, part-within, wak-within}
 use Rattle.model.proofs.Kept.{ticked, overriddenBy, KeptRaising, KeptClearing, KeptEnabling, KeptLatching, KeptTaking, KeptControlling, KeptArbitrating, KeptSleeping, KeptWaking, KeptRestarting, KeptPressing, KeptReleasing, KeptTicking, KeptOverriding, Keeps, kept-by-steps}
-use Rattle.model.proofs.LinesExactly.{awake-exactly, both}
+use Rattle.model.proofs.LinesExactly.{WalkStored, awake-exactly, both}
 use Rattle.model.proofs.Settings.{settings-kept}
 
 -- ---- tests
@@ -232,14 +233,15 @@ control-keeps =
 
 -- ---- general event bytes
 
--- the four lists of bytes, of a platform whose settings are legal
-abbrev Gpe : Machine → Type 0
+-- the four lists of bytes, of a platform whose settings are legal, and the walk's answer stored
+abbrev pub Gpe : Machine → Type 0
 Gpe m =
     Guaranteed (m .settings)
     × Bytes (m .settings .gpe0 .length / 2) (m .«gpe0_sts»)
     × Bytes (m .settings .gpe0 .length / 2) (m .«gpe0_en»)
     × Bytes (m .settings .gpe1 .length / 2) (m .«gpe1_sts»)
     × Bytes (m .settings .gpe1 .length / 2) (m .«gpe1_en»)
+    × WalkStored m
 
 even0 : (m : Machine) → Gpe m → m .settings .gpe0 .length % 2 ≡ 0
 even0 m p = even-length (m .settings .gpe0) (p .0 .gpe0-length) (p .0 .gpe0-none)
@@ -255,6 +257,7 @@ module _ (m : Machine) (offset written : ℕ) where
     enable-written m false offset written (m .settings .gpe0 .length) refl (even0 m p) o (p .2),
     p .3,
     p .4,
+    refl,
   )
 
   bytes1-written : offset < m .settings .gpe1 .length → Gpe m → Gpe (gpeWritten m true offset written)
@@ -264,25 +267,53 @@ module _ (m : Machine) (offset written : ℕ) where
     p .2,
     status-written m true offset written (p .3),
     enable-written m true offset written (m .settings .gpe1 .length) refl (even1 m p) o (p .4),
+    refl,
   )
 
+-- one more bit of GPE0, or of GPE1, with what was found before: the walk finds it where it is enabled
+walk-gpe0 : (m : Machine) (k : ℕ) → k / 8 < length (m .«gpe0_sts») → WalkStored m
+    → (isEnabled (m .«gpe0_en») k || m .«gpe_pending») ≡ (anyEnabled (withBit (m .«gpe0_sts») k) (m .«gpe0_en») || anyEnabled (m .«gpe1_sts») (m .«gpe1_en»))
+walk-gpe0 m k h stored =
+    rw (stored, walk-with-bit (m .«gpe0_sts») (m .«gpe0_en») (k / 8) (2 ^ (k % 8)) h)
+    (sym (or-assoc (isEnabled (m .«gpe0_en») k) (anyEnabled (m .«gpe0_sts») (m .«gpe0_en»)) (anyEnabled (m .«gpe1_sts») (m .«gpe1_en»))))
+
+walk-gpe1 : (m : Machine) (k : ℕ) → k / 8 < length (m .«gpe1_sts») → WalkStored m
+    → (isEnabled (m .«gpe1_en») k || m .«gpe_pending») ≡ (anyEnabled (m .«gpe0_sts») (m .«gpe0_en») || anyEnabled (withBit (m .«gpe1_sts») k) (m .«gpe1_en»))
+walk-gpe1 m k h stored =
+    rw (stored, walk-with-bit (m .«gpe1_sts») (m .«gpe1_en») (k / 8) (2 ^ (k % 8)) h)
+    (or-swapped (isEnabled (m .«gpe1_en») k) (anyEnabled (m .«gpe0_sts») (m .«gpe0_en»)) (anyEnabled (m .«gpe1_sts») (m .«gpe1_en»)))
+
 general-bytes : (m : Machine) (k : ℕ) → (inGpe0 (m .settings) k || inGpe1 (m .settings) k) ≡ true → Gpe m → Gpe (generalRaised m k)
-unfolding generalRaised inGpe0 inGpe1
+unfolding generalRaised generalEnabled inGpe0 inGpe1
 general-bytes m k h p = go (ltb k (eventCount (m .settings .gpe0))) refl
   where
     go : (t : Bool) → ltb k (eventCount (m .settings .gpe0)) ≡ t → Gpe (generalRaised m k)
     go true e =
-        rw e (p .0, bytes-with-bit (m .settings .gpe0 .length) (m .«gpe0_sts») k (even0 m p) (ltb-true k _ e) (p .1), p .2, p .3, p .4)
+        let low = ltb-true k _ e in
+        let most = gpe-at-most (m .settings .gpe0) (p .0 .gpe0-length) (p .0 .gpe0-none) in
+        let place = event-byte (m .settings .gpe0 .length) _ (m .«gpe0_sts») k most low (p .1) in
+        rw e (p .0, bytes-with-bit (m .settings .gpe0 .length) (m .«gpe0_sts») k (even0 m p) low (p .1), p .2, p .3, p .4, walk-gpe0 m k place (p .5))
     go false e =
-        let inside : (leb (m .settings .«gpe1_base») k && ltb (k - m .settings .«gpe1_base») (eventCount (m .settings .gpe1))) ≡ true = rw e at h in
-        let low = ltb-true (k - m .settings .«gpe1_base») _ (and-right (leb (m .settings .«gpe1_base») k) _ inside) in
-        rw e (p .0, p .1, p .2, bytes-with-bit (m .settings .gpe1 .length) (m .«gpe1_sts») (k - m .settings .«gpe1_base») (even1 m p) low (p .3), p .4)
+        let j = k - m .settings .«gpe1_base» in
+        let inside : (leb (m .settings .«gpe1_base») k && ltb j (eventCount (m .settings .gpe1))) ≡ true = rw e at h in
+        let low = ltb-true j _ (and-right (leb (m .settings .«gpe1_base») k) _ inside) in
+        let most = gpe-at-most (m .settings .gpe1) (p .0 .gpe1-length) (p .0 .gpe1-none) in
+        let place = event-byte (m .settings .gpe1 .length) _ (m .«gpe1_sts») j most low (p .3) in
+        rw e (p .0, p .1, p .2, bytes-with-bit (m .settings .gpe1 .length) (m .«gpe1_sts») j (even1 m p) low (p .3), p .4, walk-gpe1 m j place (p .5))
+
+-- no bit is set
+no-walk : false ≡ (anyEnabled noBytes noBytes || anyEnabled noBytes noBytes)
+unfolding anyEnabled hasBit
+no-walk = refl
 
 gpe-keeps : Keeps Gpe
 unfolding generalRaised
 gpe-keeps =
-    let restarts : KeptRestarting Gpe = λ m f p. (p .0, no-bytes _, no-bytes _, no-bytes _, no-bytes _) in
+    let restarts : KeptRestarting Gpe = λ m f p. (p .0, no-bytes _, no-bytes _, no-bytes _, no-bytes _, no-walk) in
     search (bytes0-written, bytes1-written, general-bytes)
+
+pub gpe-kept : (m : Machine) (s : Step) → Gpe m → Gpe (after m s)
+gpe-kept m s p = kept-by-steps Gpe gpe-keeps m s p
 
 -- ---- all of it
 
@@ -303,12 +334,14 @@ pub record Legal (m : Machine) : Type 0 where
   pub slp-typ-b : slpTypBLegal m ≡ true
   pub command-byte : commandByteLegal m ≡ true
   pub slp-typs : slpTypsLegal m ≡ true
+  pub gpe-pending : gpePendingLegal m ≡ true
   pub types : fitsTypes m ≡ true
 
 pub legal-means : (m : Machine) → legal m ≡ true → Legal m
 unfolding legal listed
 legal-means m e =
-    let (e₁, types) = parts _ (fitsTypes m) e in
+    let (e₀, types) = parts _ (fitsTypes m) e in
+    let (e₁, gpe-pending) = parts _ (gpePendingLegal m) e₀ in
     let (e₂, slp-typs) = parts _ (slpTypsLegal m) e₁ in
     let (e₃, command-byte) = parts _ (commandByteLegal m) e₂ in
     let (e₄, slp-typ-b) = parts _ (slpTypBLegal m) e₃ in
@@ -339,6 +372,7 @@ legal-means m e =
       slp-typ-b = slp-typ-b;
       command-byte = command-byte;
       slp-typs = slp-typs;
+      gpe-pending = gpe-pending;
       types = types;
     }
 
@@ -361,33 +395,62 @@ means-legal m l =
       l .slp-typ-b,
       l .command-byte,
       l .slp-typs,
+      l .gpe-pending,
       l .types,
     )
     refl
 
+-- the clause on what is stored, and what it means
+same-test : (a b : Bool) → Bool·beq a b ≡ true → a ≡ b
+same-test true true e = refl
+same-test true false e = absurd (false≢true e)
+same-test false true e = absurd (false≢true e)
+same-test false false e = refl
+
+test-same : (a b : Bool) → a ≡ b → Bool·beq a b ≡ true
+test-same true b e = rw (← e) refl
+test-same false b e = rw (← e) refl
+
+pub walk-means : (m : Machine) → gpePendingLegal m ≡ true → WalkStored m
+unfolding gpePendingLegal
+walk-means m e = same-test (m .«gpe_pending») (gpeEvent m) e
+
+pub means-walk : (m : Machine) → WalkStored m → gpePendingLegal m ≡ true
+unfolding gpePendingLegal
+means-walk m e = test-same (m .«gpe_pending») (gpeEvent m) e
+
+-- "A legal machine has it right"
+pub legal-walk : (m : Machine) → legal m ≡ true → WalkStored m
+legal-walk m e = walk-means m (legal-means m e .gpe-pending)
+
 -- the two clauses on general event bytes, and what they mean
-gpe-mean : (m : Machine) → legalSettings (m .settings) ≡ true → gpeLegal m false ≡ true → gpeLegal m true ≡ true → Gpe m
+gpe-mean : (m : Machine) → legalSettings (m .settings) ≡ true → gpeLegal m false ≡ true → gpeLegal m true ≡ true → gpePendingLegal m ≡ true → Gpe m
 unfolding gpeLegal
-gpe-mean m s e f = (
+gpe-mean m s e f g = (
   legal-guaranteed (m .settings) s,
   bytes-mean _ (m .«gpe0_sts») (and-left _ _ e),
   bytes-mean _ (m .«gpe0_en») (and-right (bytesLegal (m .settings .gpe0 .length / 2) (m .«gpe0_sts»)) _ e),
   bytes-mean _ (m .«gpe1_sts») (and-left _ _ f),
   bytes-mean _ (m .«gpe1_en») (and-right (bytesLegal (m .settings .gpe1 .length / 2) (m .«gpe1_sts»)) _ f),
+  walk-means m g,
 )
 
-mean-gpe : (m : Machine) → Gpe m → (gpeLegal m false ≡ true) × (gpeLegal m true ≡ true)
+pub legal-gpe : (m : Machine) → legal m ≡ true → Gpe m
+legal-gpe m e = let l = legal-means m e in gpe-mean m (l .settings) (l .gpe0) (l .gpe1) (l .gpe-pending)
+
+mean-gpe : (m : Machine) → Gpe m → (gpeLegal m false ≡ true) × (gpeLegal m true ≡ true) × (gpePendingLegal m ≡ true)
 unfolding gpeLegal
 mean-gpe m p = (
   both _ _ (mean-bytes _ (m .«gpe0_sts») (p .1)) (mean-bytes _ (m .«gpe0_en») (p .2)),
   both _ _ (mean-bytes _ (m .«gpe1_sts») (p .3)) (mean-bytes _ (m .«gpe1_en») (p .4)),
+  means-walk m (p .5),
 )
 
 -- every step keeps each clause
 pub clauses-kept : (m : Machine) (s : Step) → Legal m → Legal (after m s)
 clauses-kept m s l =
     let pm1 = kept-by-steps Pm1 pm1-keeps m s (l .status, l .enables) in
-    let gpe = mean-gpe (after m s) (kept-by-steps Gpe gpe-keeps m s (gpe-mean m (l .settings) (l .gpe0) (l .gpe1))) in
+    let gpe = mean-gpe (after m s) (gpe-kept m s (gpe-mean m (l .settings) (l .gpe0) (l .gpe1) (l .gpe-pending))) in
     let control = kept-by-steps Control control-keeps m s (l .slp-typ-b, l .slp-typs, l .arb-dis) in
     let sleep = kept-by-steps Sleep sleep-keeps m s (l .state, l .armed) in
     let button = kept-by-steps Button button-keeps m s (l .button, hold-held m (l .hold)) in
@@ -408,6 +471,7 @@ clauses-kept m s l =
       slp-typ-b = control .0;
       command-byte = commands .1;
       slp-typs = control .1;
+      gpe-pending = gpe .2;
       types = rw (settings-kept m s) (l .types);
     }
 
@@ -443,12 +507,15 @@ module _ (s : Settings) where
   unfolding slpTypBLegal
   slp-typ-b-zero = or-true (not (not (hasPm1bCnt s)))
 
+  pub power-on-gpe : legalSettings s ≡ true → Gpe (powerOn s)
+  power-on-gpe e = (legal-guaranteed s e, no-bytes _, no-bytes _, no-bytes _, no-bytes _, no-walk)
+
   pub power-on-listed : legalSettings s ≡ true → listed (powerOn s) ≡ true
   unfolding listed arbDisLegal stateAllowed buttonLegal armedLegal commandByteLegal slpTypsLegal
   power-on-listed e =
-      let bytes = mean-gpe (powerOn s) (legal-guaranteed s e, no-bytes _, no-bytes _, no-bytes _, no-bytes _) in
+      let bytes = mean-gpe (powerOn s) (power-on-gpe e) in
       let hold = held-hold (powerOn s) (lit≤ tt, λ o n. lit< tt) in
-      rw (e, status-off, enables-off, bytes .0, bytes .1, counter-zero, hold, command-none, slp-typ-b-zero) refl
+      rw (e, status-off, enables-off, bytes .0, bytes .1, counter-zero, hold, command-none, slp-typ-b-zero, bytes .2) refl
 
   pub power-on-legal : legalSettings s ≡ true → settingsFit s ≡ true → legal (powerOn s) ≡ true
   unfolding legal
@@ -456,7 +523,14 @@ module _ (s : Settings) where
 
 -- the machine of an accepted set-up is the one at power-on
 module _ (t : List ℕ) (event-homes control-homes : ℕ) (power-override : Bool) (pairs : List (List ℕ)) where
-  -- W2's list, whatever the numbers of the table
+  -- the general event bytes and what is stored of them, and W2's list, whatever the numbers of the table
+  pub set-up-gpe : setUpOf t event-homes control-homes power-override pairs .answer ≡ answer.Done
+      → Gpe (setUpOf t event-homes control-homes power-override pairs .machine)
+  set-up-gpe e =
+      let s = settingsOf t event-homes control-homes power-override pairs in
+      let same = accepted-machine t s e in
+      rw same (power-on-gpe s (rw same at (accepted-legal t event-homes control-homes power-override pairs e)))
+
   pub set-up-listed : setUpOf t event-homes control-homes power-override pairs .answer ≡ answer.Done
       → listed (setUpOf t event-homes control-homes power-override pairs .machine) ≡ true
   set-up-listed e =

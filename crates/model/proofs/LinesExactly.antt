@@ -1,5 +1,5 @@
 -- When SCI and SMI are up, bit by bit. An and of two numbers is zero exactly if no bit is set in both, and the mask 0721 hex has the
--- bits 0, 5, 8, 9 and 10.
+-- bits 0, 5, 8, 9 and 10. From a machine that has the walk's answer stored, as every legal one has (`legal-walk` of `Legal.antt`).
 -- Assumes nothing.
 use Prim.Native.Nat.{ℕ, zero, suc, _/_, _%_, min}
 use mathlib.Core.Path.{_≡_, refl, sym, _∙_, ap}
@@ -19,7 +19,8 @@ use Rattle.bits.proofs.Algebra.{disjoint-digit}
 use Rattle.machine.specs.declared.Machine.{Machine}
 use Rattle.machine.specs.Status.{hasBit}
 use Rattle.registers.specs.Registers.{gpeSts, gpeEn}
-use Rattle.machine.specs.Lines.{awake, anyEnabled, gpeEvent, pm1Event, eventOutput, sciOf, smiOf}
+use Rattle.machine.specs.Fields.{withGpe}
+use Rattle.machine.specs.Lines.{awake, anyEnabled, gpeEvent, walked, pm1Event, eventOutput, sciOf, smiOf}
 
 -- ---- what the lines look for
 
@@ -46,6 +47,14 @@ GpePair m = (b : Bool) × BytePair (gpeSts m b) (gpeEn m b)
 
 abbrev pub EventPair : Machine → Type 0
 EventPair m = Pm1Pair m ⊎ GpePair m
+
+-- what is stored is the walk's answer
+abbrev pub WalkStored : Machine → Type 0
+WalkStored m = m .«gpe_pending» ≡ gpeEvent m
+
+-- then looking for it again changes nothing
+pub stored-walked : (m : Machine) → WalkStored m → walked m ≡ m
+stored-walked m e = ap (withGpe m (m .«gpe0_sts») (m .«gpe0_en») (m .«gpe1_sts») (m .«gpe1_en»)) (sym e)
 
 -- awake is S0
 pub awake-exactly : (m : Machine) → (awake m ≡ true) ↔ (m .state ≡ 0)
@@ -180,14 +189,18 @@ module _ (m : Machine) where
   pub gpe-exactly : (gpeEvent m ≡ true) ↔ GpePair m
   gpe-exactly = (gpe-found, λ p. gpe-set (p .0) (p .1))
 
-  -- ---- the lines
+-- ---- the lines
+
+module _ (m : Machine) (stored : WalkStored m) where
+  pub stored-exactly : (m .«gpe_pending» ≡ true) ↔ GpePair m
+  stored-exactly = (λ e. gpe-exactly m .0 (sym stored ∙ e), λ p. stored ∙ gpe-exactly m .1 p)
 
   event-found : eventOutput m ≡ true → EventPair m
-  event-found e = ⊎-map (pm1-found m) gpe-found (either _ _ e)
+  event-found e = ⊎-map (pm1-found m) (stored-exactly .0) (either _ _ e)
 
   event-set : EventPair m → eventOutput m ≡ true
   event-set (inl p) = or-first _ _ (pm1-set m p)
-  event-set (inr p) = or-second (pm1Event m) _ (gpe-exactly .1 p)
+  event-set (inr p) = or-second (pm1Event m) _ (stored-exactly .1 p)
 
   pub event-exactly : (eventOutput m ≡ true) ↔ EventPair m
   event-exactly = (event-found, event-set)
@@ -232,7 +245,7 @@ module _ (m : Machine) where
     λ p. both _ _ (awake-exactly m .1 (p .0)) (smi-set (p .1)),
   )
 
-  -- "Outside S0 both are down."
-  pub lines-down-asleep : (m .state ≡ 0 → ⊥) → (sciOf m ≡ false) × (smiOf m ≡ false)
-  unfolding sciOf smiOf
-  lines-down-asleep n = let down = asleep-exactly m .1 n in (rw down, rw down)
+-- "Outside S0 both are down."
+pub lines-down-asleep : (m : Machine) → (m .state ≡ 0 → ⊥) → (sciOf m ≡ false) × (smiOf m ≡ false)
+unfolding sciOf smiOf
+lines-down-asleep m n = let down = asleep-exactly m .1 n in (rw down, rw down)

@@ -15,11 +15,10 @@ use Rattle.bits.proofs.Digits.{digit-zero}
 use Rattle.cells.specs.Cells.{flagOf}
 use Rattle.platform.specs.declared.settings.Settings.{Settings}
 use Rattle.machine.specs.Status.{slpbtnBit, rtcBit, hasBit}
-use Rattle.machine.specs.Lines.{gpeEvent}
 use Rattle.machine.specs.Sleep.{wakeBits, pending}
 use Rattle.machine.specs.declared.Machine.{Machine}
 use Rattle.model.specs.Events.{signalWakes}
-use Rattle.model.proofs.LinesExactly.{BothSet, GpePair, both-set, has-bit-exactly, either, or-first, or-second, both, gpe-exactly}
+use Rattle.model.proofs.LinesExactly.{BothSet, GpePair, WalkStored, both-set, has-bit-exactly, either, or-first, or-second, both, stored-exactly}
 
 -- "(bit 10 in S4 only with flag 7)"
 abbrev pub RtcWakes : Settings → ℕ → Type 0
@@ -101,24 +100,24 @@ module _ (m : Machine) (state : ℕ) where
   by-bit : (j : ℕ) (t : Bool) → digit j (cond t 0x0700 0x0300) ≡ 1 → Set j → looked t ≡ true
   by-bit j t e p = has-bit-exactly (bitAnd (m .«pm1_sts») (m .«pm1_en»)) (cond t 0x0700 0x0300) .1 (j, (both-set j _ _ .1 p, e))
 
-  looked-or : (t : Bool) → rtcCounts (m .settings) state ≡ t → WakingPair m state → (looked t || gpeEvent m) ≡ true
+  looked-or : WalkStored m → (t : Bool) → rtcCounts (m .settings) state ≡ t → WakingPair m state → (looked t || m .«gpe_pending») ≡ true
   unfolding digit
-  looked-or true e (inl p) = or-first (looked true) (gpeEvent m) (by-bit 8 true refl p)
-  looked-or true e (inr (inl p)) = or-first (looked true) (gpeEvent m) (by-bit 9 true refl p)
-  looked-or true e (inr (inr (inl p))) = or-first (looked true) (gpeEvent m) (by-bit 10 true refl (p .0))
-  looked-or true e (inr (inr (inr p))) = or-second (looked true) (gpeEvent m) (gpe-exactly m .1 p)
-  looked-or false e (inl p) = or-first (looked false) (gpeEvent m) (by-bit 8 false refl p)
-  looked-or false e (inr (inl p)) = or-first (looked false) (gpeEvent m) (by-bit 9 false refl p)
-  looked-or false e (inr (inr (inl p))) = absurd (false≢true (sym e ∙ counts-rtc (m .settings) state (p .1)))
-  looked-or false e (inr (inr (inr p))) = or-second (looked false) (gpeEvent m) (gpe-exactly m .1 p)
+  looked-or stored true e (inl p) = or-first (looked true) (m .«gpe_pending») (by-bit 8 true refl p)
+  looked-or stored true e (inr (inl p)) = or-first (looked true) (m .«gpe_pending») (by-bit 9 true refl p)
+  looked-or stored true e (inr (inr (inl p))) = or-first (looked true) (m .«gpe_pending») (by-bit 10 true refl (p .0))
+  looked-or stored true e (inr (inr (inr p))) = or-second (looked true) (m .«gpe_pending») (stored-exactly m stored .1 p)
+  looked-or stored false e (inl p) = or-first (looked false) (m .«gpe_pending») (by-bit 8 false refl p)
+  looked-or stored false e (inr (inl p)) = or-first (looked false) (m .«gpe_pending») (by-bit 9 false refl p)
+  looked-or stored false e (inr (inr (inl p))) = absurd (false≢true (sym e ∙ counts-rtc (m .settings) state (p .1)))
+  looked-or stored false e (inr (inr (inr p))) = or-second (looked false) (m .«gpe_pending») (stored-exactly m stored .1 p)
 
   -- a sleep that completes wakes at once exactly if one of these is set together with its enable
-  pub pending-exactly : (pending m state ≡ true) ↔ WakingPair m state
+  pub pending-exactly : WalkStored m → (pending m state ≡ true) ↔ WakingPair m state
   unfolding pending wakeBits
-  pending-exactly = (
-    λ e. ⊎-elim (pm1-found (rtcCounts (m .settings) state) refl) (λ p. inr (inr (inr (gpe-exactly m .0 p))))
-        (either (looked (rtcCounts (m .settings) state)) (gpeEvent m) e),
-    looked-or (rtcCounts (m .settings) state) refl,
+  pending-exactly stored = (
+    λ e. ⊎-elim (pm1-found (rtcCounts (m .settings) state) refl) (λ p. inr (inr (inr (stored-exactly m stored .0 p))))
+        (either (looked (rtcCounts (m .settings) state)) (m .«gpe_pending») e),
+    looked-or stored (rtcCounts (m .settings) state) refl,
   )
 
 -- a sleep press that finds the machine in S1 to S4 wakes it exactly if SLPBTN_EN is set

@@ -8,6 +8,7 @@ use Rattle.platform.specs.Fitted.{wideTimer}
 use Rattle.machine.specs.declared.Machine.{Machine}
 use Rattle.registers.specs.Registers.{shown, bitWhen, eventRegister, statusAfter, enableAfter, controlShown, gpeByte, gpeStsAfter, gpeEnAfter}
 use Rattle.machine.specs.Fields.{withEvent, withGpe, withCommand, withArbDis}
+use Rattle.machine.specs.Lines.{walked}
 use Rattle.model.specs.Control.{controlWritten}
 use Rattle.model.specs.declared.Register.{Register}
 use Rattle.model.specs.declared.Register.the-variants as register
@@ -77,9 +78,15 @@ readOf m register.Nowhere width offset = 0
 -- ---- writes
 
 -- a byte of GPE0, or of GPE1, is written
+abbrev pub gpeBytesWritten : Machine → Bool → ℕ → ℕ → Machine
+gpeBytesWritten m false offset written =
+    withGpe m (gpeStsAfter m false offset written) (gpeEnAfter m false offset written) (m .«gpe1_sts») (m .«gpe1_en») (m .«gpe_pending»)
+gpeBytesWritten m true offset written =
+    withGpe m (m .«gpe0_sts») (m .«gpe0_en») (gpeStsAfter m true offset written) (gpeEnAfter m true offset written) (m .«gpe_pending»)
+
+-- .. and whether an enabled bit is set is looked for again: request W7
 abbrev pub gpeWritten : Machine → Bool → ℕ → ℕ → Machine
-gpeWritten m false offset written = withGpe m (gpeStsAfter m false offset written) (gpeEnAfter m false offset written) (m .«gpe1_sts») (m .«gpe1_en»)
-gpeWritten m true offset written = withGpe m (m .«gpe0_sts») (m .«gpe0_en») (gpeStsAfter m true offset written) (gpeEnAfter m true offset written)
+gpeWritten m b offset written = walked (gpeBytesWritten m b offset written)
 
 -- what an accepted write does; "A command write latches the byte", "PM2 bit 0 is ARB_DIS"
 unfoldable pub writeOf : Machine → Register → ℕ → ℕ → ℕ → Machine

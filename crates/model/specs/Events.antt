@@ -1,5 +1,5 @@
 -- Buttons, alarm, PCIe wake, bus master, global lock, general events and ticks.
-use mathlib.Core.Bool.{Bool, true, false, not, cond, _&&_}
+use mathlib.Core.Bool.{Bool, true, false, not, cond, _&&_, _||_}
 use mathlib.Core.List.{List}
 use Prim.Native.Nat.{ℕ, zero, suc, _+_, _-_, _/_, _%_, _^_}
 use lib.Bits.{bitOr}
@@ -121,7 +121,11 @@ withBit xs k = set xs (k / 8) (bitOr (getD xs (k / 8) 0) (2 ^ (k % 8)))
 abbrev pub isEnabled : List ℕ → ℕ → Bool
 isEnabled xs k = hasBit (getD xs (k / 8) 0) (2 ^ (k % 8))
 
--- ".. general events set their bits": of GPE0, or else of GPE1
+-- "general event if enabled"
+unfoldable pub generalEnabled : Machine → ℕ → Bool
+generalEnabled m k = cond (inGpe0 (m .settings) k) (isEnabled (m .«gpe0_en») k) (isEnabled (m .«gpe1_en») (numberIn (m .settings) k))
+
+-- ".. general events set their bits": of GPE0, or else of GPE1. Request W7: an enabled one is pending
 unfoldable pub generalRaised : Machine → ℕ → Machine
 generalRaised m k =
     withGpe m
@@ -129,10 +133,7 @@ generalRaised m k =
     (m .«gpe0_en»)
     (cond (inGpe0 (m .settings) k) (m .«gpe1_sts») (withBit (m .«gpe1_sts») (numberIn (m .settings) k)))
     (m .«gpe1_en»)
-
--- "general event if enabled"
-unfoldable pub generalEnabled : Machine → ℕ → Bool
-generalEnabled m k = cond (inGpe0 (m .settings) k) (isEnabled (m .«gpe0_en») k) (isEnabled (m .«gpe1_en») (numberIn (m .settings) k))
+    (generalEnabled m k || m .«gpe_pending»)
 
 -- "In S5 .. other accepted events change nothing"
 unfoldable pub generalOf : Machine → ℕ → Machine

@@ -1,7 +1,7 @@
 -- When a machine is legal: the list of request W2, document 02, which the comments quote, one test a clause in the list's order, and the types of the
 -- fields. That setting up gives legal machines and every step keeps them legal is `set-up-legal` and `legal-kept` of `proofs/Legal.antt`.
 -- A clause marked "one value for each meaning" picks one of the machines that one text could stand for.
-use mathlib.Core.Bool.{Bool, true, false, not, _&&_, _||_}
+use mathlib.Core.Bool.{Bool, true, false, not, _&&_, _||_, Bool·beq}
 use mathlib.Core.List.{List, [], _∷_}
 use Prim.Native.Nat.{ℕ, _^_}
 use lib.Dec.{eqb, ltb, leb}
@@ -16,7 +16,7 @@ use Rattle.platform.specs.Legal.{legalSettings}
 use Rattle.platform.specs.declared.settings.Settings.{Settings}
 use Rattle.machine.specs.Status.{pwrbtnBit}
 use Rattle.registers.specs.Registers.{hasPm1bCnt, gpeHalf, gpeSts, gpeEn}
-use Rattle.machine.specs.Lines.{awake}
+use Rattle.machine.specs.Lines.{awake, gpeEvent}
 use Rattle.machine.specs.PowerOn.{gpeBytes}
 use Rattle.machine.specs.declared.Machine.{Machine}
 use Rattle.model.specs.Events.{fits, inS5}
@@ -88,6 +88,10 @@ commandByteLegal m = ltb (m .command) 256 && onlyIf (not (m .«command_waits»))
 unfoldable pub slpTypsLegal : Machine → Bool
 slpTypsLegal m = ltb (m .«slp_typ_a») 8 && ltb (m .«slp_typ_b») 8
 
+-- request W7: "A legal machine has it right": what is stored is the walk's answer; no text can break it
+unfoldable pub gpePendingLegal : Machine → Bool
+gpePendingLegal m = Bool·beq (m .«gpe_pending») (gpeEvent m)
+
 -- W2's list: "settings pass rules 5 to 12", and the clauses above
 unfoldable pub listed : Machine → Bool
 listed m =
@@ -105,7 +109,8 @@ listed m =
     armedLegal m &&
     slpTypBLegal m &&
     commandByteLegal m &&
-    slpTypsLegal m
+    slpTypsLegal m &&
+    gpePendingLegal m
 
 -- ---- the types
 

@@ -1,6 +1,6 @@
 -- Two steps in either order: two events of which one is quiet, and an event and a half access. Same answers, same machine.
 -- An event raises bits that the half neither shows nor clears, and changes nothing else that the half looks at. Assumes nothing.
-use mathlib.Core.Bool.{false}
+use mathlib.Core.Bool.{Bool, false, _||_}
 use mathlib.Core.List.{List}
 use mathlib.Core.Path.{_≡_, refl, sym, _∙_}
 use Prim.Native.Nat.{ℕ}
@@ -19,8 +19,8 @@ use Rattle.split_access.proofs.Effects.{Effect, answered, affected, eff
 -- ---- two events
 
 -- a fixed answer, a fixed mask, and nothing of the button, hold or the counter
-abbrev pub quietly : Answer → ℕ → (List ℕ → List ℕ) → (List ℕ → List ℕ) → Effect
-quietly a mask gpe0 gpe1 =
+abbrev pub quietly : Answer → ℕ → (List ℕ → List ℕ) → (List ℕ → List ℕ) → (List ℕ → List ℕ → Bool) → Effect
+quietly a mask gpe0 gpe1 pending =
     record {
       answer = λ b h c. a;
       mask = λ b h c. mask;
@@ -30,6 +30,7 @@ quietly a mask gpe0 gpe1 =
       off = λ b h c. false;
       gpe0 = gpe0;
       gpe1 = gpe1;
+      pending = pending;
     }
 
 pub record Quiet (e : Effect) : Type 0 where
@@ -37,21 +38,27 @@ pub record Quiet (e : Effect) : Type 0 where
   pub mask : ℕ
   pub gpe0 : List ℕ → List ℕ
   pub gpe1 : List ℕ → List ℕ
-  pub is : e ≡ quietly answer mask gpe0 gpe1
+  pub pending : List ℕ → List ℕ → Bool
+  pub is : e ≡ quietly answer mask gpe0 gpe1 pending
 
 -- no general event
 pub record GpeKept (s : Settings) (e : Event) : Type 0 where
   pub first : effectOf s e .gpe0 ≡ (λ xs. xs)
   pub second : effectOf s e .gpe1 ≡ (λ xs. xs)
+  pub none : effectOf s e .pending ≡ (λ es fs. false)
 
-effects-commute : (m : Machine) (a : Answer) (k : ℕ) (f g : List ℕ → List ℕ) (e : Effect) → e .gpe0 ≡ (λ xs. xs) → e .gpe1 ≡ (λ xs. xs)
-    → affected e (affected (quietly a k f g) m) ≡ affected (quietly a k f g) (affected e m)
-effects-commute m a k f g e p q =
+effects-commute : (m : Machine) (a : Answer) (k : ℕ) (f g : List ℕ → List ℕ) (h : List ℕ → List ℕ → Bool) (e : Effect)
+    → e .gpe0 ≡ (λ xs. xs) → e .gpe1 ≡ (λ xs. xs) → e .pending ≡ (λ es fs. false)
+    → affected e (affected (quietly a k f g h) m) ≡ affected (quietly a k f g h) (affected e m)
+effects-commute m a k f g h e p q r =
     let mask = e .mask (m .button) (m .hold) (m .counter) in
     let status : bitOr (bitOr (m .«pm1_sts») k) mask ≡ bitOr (bitOr (m .«pm1_sts») mask) k = or-swap (m .«pm1_sts») k mask in
     let first : e .gpe0 (f (m .«gpe0_sts»)) ≡ f (e .gpe0 (m .«gpe0_sts»)) = rw p refl in
     let second : e .gpe1 (g (m .«gpe1_sts»)) ≡ g (e .gpe1 (m .«gpe1_sts»)) = rw q refl in
-    λ i. withGpe (withEvent (affected e (affected (quietly a k f g) m)) (status i) (m .«pm1_en»)) (first i) (m .«gpe0_en») (second i) (m .«gpe1_en»)
+    let there = h (m .«gpe0_en») (m .«gpe1_en») in
+    let here = e .pending (m .«gpe0_en») (m .«gpe1_en») in
+    let pending : (here || (there || m .«gpe_pending»)) ≡ (there || (here || m .«gpe_pending»)) = rw r refl in
+    λ i. withGpe (withEvent (affected e (affected (quietly a k f g h) m)) (status i) (m .«pm1_en»)) (first i) (m .«gpe0_en») (second i) (m .«gpe1_en») (pending i)
 
 -- one of the two is quiet, and the other no general event
 pub data Apart (s : Settings) (g b : Event) : Type 0 where
@@ -83,7 +90,7 @@ events-commute m g b z on-g on-b (quiet-first q kept) =
     let fixed : answered Eg m ≡ answered Eg (affected Eb m) = rw (q .is) refl in
     let still : answered Eb (affected Eg m) ≡ answered Eb m = rw (q .is) refl in
     let ends : affected Eb (affected Eg m) ≡ affected Eg (affected Eb m) =
-    rw (q .is) (effects-commute m (q .answer) (q .mask) (q .gpe0) (q .gpe1) Eb (kept .first) (kept .second)) in (
+    rw (q .is) (effects-commute m (q .answer) (q .mask) (q .gpe0) (q .gpe1) (q .pending) Eb (kept .first) (kept .second) (kept .none)) in (
       orders-meet m g b (affected Eg m) (affected Eb m) (affected Eb (affected Eg m)) (g-m .1) (b-m .1) (g-m .0 ∙ fixed ∙ sym (g-b .0))
           (b-g .0 ∙ still ∙ sym (b-m .0)) (b-g .1) (g-b .1 ∙ sym ends),
       on,
@@ -100,7 +107,7 @@ events-commute m g b z on-g on-b (quiet-second kept q) =
     let fixed : answered Eb (affected Eg m) ≡ answered Eb m = rw (q .is) refl in
     let still : answered Eg m ≡ answered Eg (affected Eb m) = rw (q .is) refl in
     let ends : affected Eb (affected Eg m) ≡ affected Eg (affected Eb m) =
-    rw (q .is) (sym (effects-commute m (q .answer) (q .mask) (q .gpe0) (q .gpe1) Eg (kept .first) (kept .second))) in (
+    rw (q .is) (sym (effects-commute m (q .answer) (q .mask) (q .gpe0) (q .gpe1) (q .pending) Eg (kept .first) (kept .second) (kept .none))) in (
       orders-meet m g b (affected Eg m) (affected Eb m) (affected Eb (affected Eg m)) (g-m .1) (b-m .1) (g-m .0 ∙ still ∙ sym (g-b .0))
           (b-g .0 ∙ fixed ∙ sym (b-m .0)) (b-g .1) (g-b .1 ∙ sym ends),
       on,

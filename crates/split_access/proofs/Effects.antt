@@ -1,5 +1,6 @@
--- What an event does to an awake machine that it leaves awake: it raises status bits, and changes the button, hold, the counter and the
--- general status bytes, each by what stands there and in the settings alone. By the event's bit and kind. Assumes nothing.
+-- What an event does to an awake machine that it leaves awake: it raises status bits, and changes the button, hold, the counter, the
+-- general status bytes and whether one is pending, each by what stands there, in the general enables and in the settings alone. By the
+-- event's bit and kind. Assumes nothing.
 use mathlib.Core.Bool.{Bool, true, false, not, cond, _&&_, _||_}
 use mathlib.Core.List.{List}
 use mathlib.Core.Logic.{_⊎_, inl, inr, ⊎-elim}
@@ -16,7 +17,7 @@ use Rattle.platform.specs.declared.settings.Settings.{Settings}
 use Rattle.machine.specs.declared.Machine.{Machine}
 use Rattle.model.specs.Answer.{firstApplying}
 use Rattle.machine.specs.Status.{tmrBit}
-use Rattle.model.specs.Events.{StatusBit, pm1, gpe, eventBit, pm1Mask, fits, raised, pressOf, signalOf, pcieWakeOf, generalOf, generalRaised, inGpe0, inGpe1, withBit, numberIn, inS5, tmrRaised, timed, tickedBy, doneBy, eventOf}
+use Rattle.model.specs.Events.{StatusBit, pm1, gpe, eventBit, pm1Mask, fits, raised, pressOf, signalOf, pcieWakeOf, generalOf, generalRaised, generalEnabled, inGpe0, inGpe1, withBit, isEnabled, numberIn, inS5, tmrRaised, timed, tickedBy, doneBy, eventOf}
 use Rattle.machine.specs.Fields.{withGpe, withButton, withTime}
 use Rattle.machine.specs.Lines.{awake}
 use Rattle.machine.specs.Sleep.{isSleeping}
@@ -33,7 +34,7 @@ use Rattle.model.specs.declared.Answer.the-variants as answer
 use Rattle.model.specs.declared.Event.{Event}
 use Rattle.model.specs.declared.Step.the-variants as step
 
--- an event's effect, as a function of the button, hold and the counter, and of the general status bytes
+-- an event's effect, as a function of the button, hold and the counter, of the general status bytes, and of the general enables: whether it is pending
 pub record Effect : Type 0 where
   pub answer : Bool → ℕ → ℕ → Answer
   pub mask : Bool → ℕ → ℕ → ℕ
@@ -43,10 +44,11 @@ pub record Effect : Type 0 where
   pub off : Bool → ℕ → ℕ → Bool
   pub gpe0 : List ℕ → List ℕ
   pub gpe1 : List ℕ → List ℕ
+  pub pending : List ℕ → List ℕ → Bool
 
-abbrev pub lived : Machine → ℕ → Bool → ℕ → ℕ → List ℕ → List ℕ → Machine
-lived m mask button hold counter gpe0 gpe1 =
-    withTime (withButton (withGpe (raised m mask) gpe0 (m .«gpe0_en») gpe1 (m .«gpe1_en»)) button hold) counter hold
+abbrev pub lived : Machine → ℕ → Bool → ℕ → ℕ → List ℕ → List ℕ → Bool → Machine
+lived m mask button hold counter gpe0 gpe1 pending =
+    withTime (withButton (withGpe (raised m mask) gpe0 (m .«gpe0_en») gpe1 (m .«gpe1_en») pending) button hold) counter hold
 
 -- the answer that goes with an effect, and the machine after it
 abbrev pub answered : Effect → Machine → Answer
@@ -56,6 +58,7 @@ abbrev pub affected : Effect → Machine → Machine
 affected e m =
     lived m (e .mask (m .button) (m .hold) (m .counter)) (e .button (m .button)) (e .hold (m .button) (m .hold) (m .counter))
     (e .counter (m .button) (m .hold) (m .counter)) (e .gpe0 (m .«gpe0_sts»)) (e .gpe1 (m .«gpe1_sts»))
+    (e .pending (m .«gpe0_en») (m .«gpe1_en») || m .«gpe_pending»)
 
 -- the ticks of a clock
 abbrev pub clockTicks : Settings → ℕ → Bool → ℕ → ℕ → Clock
@@ -131,6 +134,11 @@ abbrev pub gpe1After : Settings → StatusBit → List ℕ → List ℕ
 gpe1After s (pm1 i) xs = xs
 gpe1After s (gpe k) xs = cond ((inGpe0 s k || inGpe1 s k) && not (inGpe0 s k)) (withBit xs (numberIn s k)) xs
 
+-- whether a general event is enabled
+abbrev pub pendingBy : Settings → StatusBit → List ℕ → List ℕ → Bool
+pendingBy s (pm1 i) gpe0-en gpe1-en = false
+pendingBy s (gpe k) gpe0-en gpe1-en = (inGpe0 s k || inGpe1 s k) && cond (inGpe0 s k) (isEnabled gpe0-en k) (isEnabled gpe1-en (numberIn s k))
+
 abbrev pub effectBy : Settings → StatusBit → EventKind → Effect
 effectBy s bit k =
     record {
@@ -142,6 +150,7 @@ effectBy s bit k =
       off = liveOf s bit k .off;
       gpe0 = λ xs. gpe0After s bit xs;
       gpe1 = λ xs. gpe1After s bit xs;
+      pending = λ es fs. pendingBy s bit es fs;
     }
 
 unfoldable pub effectOf : Settings → Event → Effect
@@ -202,7 +211,7 @@ unfolding firstApplying awake
 notice-affects m i z = rw z (refl, refl)
 
 general-affects : (m : Machine) (k : ℕ) → m .state ≡ 0 → AffectsBy m (gpe k) (kind.general k)
-unfolding firstApplying generalOf generalRaised inS5 isSleeping
+unfolding firstApplying generalOf generalRaised generalEnabled inS5 isSleeping
 general-affects m k z = go (inGpe0 (m .settings) k) (inGpe1 (m .settings) k) refl refl
   where
     go : (f g : Bool) → inGpe0 (m .settings) k ≡ f → inGpe1 (m .settings) k ≡ g → AffectsBy m (gpe k) (kind.general k)

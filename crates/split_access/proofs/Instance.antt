@@ -80,7 +80,7 @@ movedItems =
 abbrev end : Machine
 end =
     let pressed = withEvent (machine alarmInB) 0x100 0 in
-    let general = withGpe pressed (set (set noBytes 0 0x08) 1 0x02) noBytes noBytes noBytes in
+    let general = withGpe pressed (set (set noBytes 0 0x08) 1 0x02) noBytes noBytes noBytes false in
     let ticked = withTime general 2 2 in
     enter (withControl ticked false false 5 2 false) 3
 

@@ -8,6 +8,7 @@ pub mod Leads
 pub mod Moves
 pub mod WriteBack
 pub mod Legal
+pub mod ByWalk
 pub mod WakesAtOnce
 pub mod Platform
 pub mod Refuted

@@ -19,7 +19,7 @@ use Rattle.model.specs.declared.Event.{Event}
 use Rattle.model.proofs.EventBits.{Pair, pair-of}
 use Rattle.model.proofs.EventBits as pair
 use Rattle.split_access.specs.Gap.{livesInB, eventBefore, isPm1Bit, isButton, ticksIn, isTicking}
-use Rattle.split_access.proofs.Effects.{gpe0After, gpe1After, effectBy, effectOf}
+use Rattle.split_access.proofs.Effects.{gpe0After, gpe1After, pendingBy, effectBy, effectOf}
 use Rattle.split_access.proofs.Commute.{Quiet, GpeKept, Apart, quiet-first, quiet-second}
 
 zero-one : _≡_ {A = ℕ} 0 1 → ⊥
@@ -33,17 +33,17 @@ true-false e = let z : _≡_ {A = ℕ} 0 1 = cc in absurd (zero-one z)
 ticks-none : (s : Settings) (n : ℕ) → n ≡ 0 → Quiet (effectBy s (pm1 0) (kind.ticks n))
 unfolding clock.ticksOf
 ticks-none s n e =
-    record { answer = answer.Done 0; mask = bitsIf (fits s tmrBit && false) tmrBit; gpe0 = λ xs. xs; gpe1 = λ xs. xs; is = rw e refl }
+    record { answer = answer.Done 0; mask = bitsIf (fits s tmrBit && false) tmrBit; gpe0 = λ xs. xs; gpe1 = λ xs. xs; pending = λ es fs. false; is = rw e refl }
 
 -- neither a button nor ticks
 quiet-kind : (s : Settings) {bit : StatusBit} {k : EventKind} → Pair bit k → isPm1Bit 8 bit ≡ false → (isPm1Bit 0 bit && not (eqb (ticksIn k) 0)) ≡ false
     → Quiet (effectBy s bit k)
 quiet-kind s pair.press p q = true-false p
 quiet-kind s pair.release p q = true-false p
-quiet-kind s (pair.signal i l) p q = record { answer = _; mask = _; gpe0 = _; gpe1 = _; is = refl }
-quiet-kind s pair.pcie-wake p q = record { answer = _; mask = _; gpe0 = _; gpe1 = _; is = refl }
-quiet-kind s (pair.notice i l f) p q = record { answer = _; mask = _; gpe0 = _; gpe1 = _; is = refl }
-quiet-kind s (pair.general k) p q = record { answer = _; mask = _; gpe0 = _; gpe1 = _; is = refl }
+quiet-kind s (pair.signal i l) p q = record { answer = _; mask = _; gpe0 = _; gpe1 = _; pending = _; is = refl }
+quiet-kind s pair.pcie-wake p q = record { answer = _; mask = _; gpe0 = _; gpe1 = _; pending = _; is = refl }
+quiet-kind s (pair.notice i l f) p q = record { answer = _; mask = _; gpe0 = _; gpe1 = _; pending = _; is = refl }
+quiet-kind s (pair.general k) p q = record { answer = _; mask = _; gpe0 = _; gpe1 = _; pending = _; is = refl }
 quiet-kind s (pair.ticks n) p q = ticks-none s n (eqb-true n 0 (not-false (eqb n 0) q))
 
 quiet-event : (s : Settings) (e : Event) → isButton e ≡ false → isTicking e ≡ false → Quiet (effectOf s e)
@@ -52,10 +52,10 @@ quiet-event s e p q = quiet-kind s (pair-of e) p q
 
 -- ---- the events that go by a PM1 bit
 
--- they change no general status byte
+-- they change no general status byte, and nothing of what is pending there
 gpe-kept : (s : Settings) (e : Event) (i : ℕ) → eventBit e ≡ pm1 i → GpeKept s e
 unfolding effectOf
-gpe-kept s e i p = record { first = ap (gpe0After s) p; second = ap (gpe1After s) p }
+gpe-kept s e i p = record { first = ap (gpe0After s) p; second = ap (gpe1After s) p; none = ap (pendingBy s) p }
 
 -- a general event never goes before
 kept-before : (s : Settings) (e : Event) → eventBefore s e ≡ true → GpeKept s e

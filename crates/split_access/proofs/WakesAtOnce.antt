@@ -1,7 +1,9 @@
 -- A step that leaves a machine asleep that was awake found nothing pending. Only a control write that completes enters one of S1 to S4, and it looks first:
--- with a bit pending it ends in S0 again. Every other step keeps S0, or by the override enters S5. Assumes nothing.
+-- with a bit pending it ends in S0 again. Every other step keeps S0, or by the override enters S5. What is stored of the general event bits is the
+-- walk's answer from setting up on. Assumes nothing.
 use mathlib.Core.Bool.{Bool, true, false, cond, _&&_, false≢true}
 use mathlib.Core.Logic.{⊎-elim}
+use mathlib.Core.List.{List}
 use mathlib.Core.Path.{_≡_, refl, sym, _∙_, ap}
 use Prim.Native.Nat.{ℕ}
 use Rattle.machine.specs.SetUp.{setUpOf}
@@ -15,8 +17,13 @@ use Rattle.model.specs.declared.Register.{Register}
 use Rattle.model.specs.declared.Register.the-variants as register
 use Rattle.model.specs.declared.Step.{Step}
 use Rattle.model.specs.declared.Step.the-variants as step
+use Rattle.model.proofs.Legal.{Gpe, legal-gpe, set-up-gpe}
+use Rattle.model.proofs.LinesExactly.{WalkStored, stored-walked}
 use Rattle.model.proofs.Ticks.{cond-ap}
+use Rattle.runs.specs.Items.{after as afterAll}
+use Rattle.split_access.specs.Start.{AfterLegal}
 use Rattle.split_access.specs.WakesAtOnce.{WakesAtOnceFrom, WakesAtOnce}
+use Rattle.split_access.proofs.ByWalk.{gpe-after}
 use Rattle.split_access.proofs.Effects.{On, event-affects, on-or-off}
 
 -- from m, if the state is one of S1 to S4, nothing is pending for it
@@ -104,10 +111,19 @@ module _ (m : Machine) (z : m .state ≡ 0) where
 
 -- ---- the claim
 
--- from every machine
-pub wakes-at-once-from : (m : Machine) → WakesAtOnceFrom stepOf m
-wakes-at-once-from m x z = step-rests m z x
+-- from every machine that has the walk's answer stored
+pub wakes-at-once-from : (m : Machine) → WalkStored m → WakesAtOnceFrom stepOf m
+wakes-at-once-from m stored x z l = rw (stored-walked m stored) (step-rests m z x l)
+
+-- after any steps from general event bytes that are right
+pub wakes-at-once-after : (m : Machine) (steps : List Step) → Gpe m → WakesAtOnceFrom stepOf (afterAll after m steps)
+wakes-at-once-after m steps p = wakes-at-once-from (afterAll after m steps) (gpe-after m steps p .5)
 
 -- "after any steps from setting up"
 pub wakes-at-once : WakesAtOnce setUpOf stepOf
-wakes-at-once t event-homes control-homes power-override pairs e steps = wakes-at-once-from _
+wakes-at-once t event-homes control-homes power-override pairs e steps =
+    wakes-at-once-after _ steps (set-up-gpe t event-homes control-homes power-override pairs e)
+
+-- after any steps from a legal machine
+pub wakes-at-once-from-legal : AfterLegal stepOf (WakesAtOnceFrom stepOf)
+wakes-at-once-from-legal m e steps = wakes-at-once-after m steps (legal-gpe m e)

@@ -28,7 +28,7 @@ use Rattle.platform.proofs.Legal.{legal-guaranteed}
 use Rattle.machine.specs.declared.Machine.{Machine}
 use Rattle.registers.specs.Registers.{controlIn}
 use Rattle.model.specs.Legal.{absentPair, statusLegal, enablesLegal, stateAllowed, counterLegal, holdLegal, commandByteLegal, slpTypsLegal, notTwo, settingsFit, legal}
-use Rattle.model.proofs.Legal.{Legal, legal-means, only-if, parts}
+use Rattle.model.proofs.Legal.{Legal, legal-means, legal-walk, only-if, parts}
 use Rattle.values.specs.Values.{pairValue, pairOf, settingsValues, valuesOf, settingsFrom, machineFrom}
 use Rattle.values.proofs.Back.{flag-back, bit-0-back, waits-back, command-back, block-back, pm1-block-back, pair-bytes, pair-back, six-back, within-small, halves-back, sci-en-back, bm-rld-back, slp-typ-back, some-home, either-back}
 
@@ -210,5 +210,6 @@ machine-back m e =
       bit-0-back (m .«arb_dis»),
       flag-back (m .armed),
       mod-eq-of-lt (lt-of-lt-of-le (state-small s (m .state) (f .six) (l .state)) (lit≤ tt)),
+      ← legal-walk m e,
     )
     refl

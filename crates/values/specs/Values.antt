@@ -13,6 +13,7 @@ use Rattle.platform.specs.Blocks.{block}
 use Rattle.platform.specs.declared.block.Block.{Block}
 use Rattle.platform.specs.declared.settings.Settings.{Settings}
 use Rattle.machine.specs.Fields.{made}
+use Rattle.machine.specs.Lines.{walked}
 use Rattle.machine.specs.declared.Machine.{Machine}
 use Rattle.registers.specs.Registers.{statusRegister, enableRegister, controlRegister, bitWhen}
 
@@ -158,15 +159,19 @@ abbrev pub slpTypIn : List ℕ → ℕ → ℕ
 slpTypIn vs i = getD vs i 0 / 2 ^ «SLP_TYPx» % 8
 
 -- the machine, with its general event bytes: GPE0_STS, GPE0_EN, GPE1_STS, GPE1_EN
-abbrev pub machineFrom : List ℕ → List ℕ → List ℕ → List ℕ → List ℕ → Machine
-machineFrom vs gpe0-sts gpe0-en gpe1-sts gpe1-en =
+abbrev pub cellsFrom : List ℕ → List ℕ → List ℕ → List ℕ → List ℕ → Machine
+cellsFrom vs gpe0-sts gpe0-en gpe1-sts gpe1-en =
     made (settingsFrom vs)
     (bitOr (wordIn vs 28) (wordIn vs 29), bitOr (wordIn vs 30) (wordIn vs 31))
-    (gpe0-sts, gpe0-en, gpe1-sts, gpe1-en)
+    (gpe0-sts, gpe0-en, gpe1-sts, gpe1-en, false)
     (dwordIn vs 35, dwordIn vs 36, flagIn vs 37)
     (bitIn vs 38 8, byteIn vs 38)
     (controlBitIn vs «SCI_EN», controlBitIn vs «BM_RLD», flagIn vs 39, slpTypIn vs 32, slpTypIn vs 33, bitIn vs 34 «ARB_DIS»)
     (flagIn vs 40, byteIn vs 41)
+
+-- whether an enabled bit is set among them: "The saved text does not carry it; the reader works it out." (request W7)
+abbrev pub machineFrom : List ℕ → List ℕ → List ℕ → List ℕ → List ℕ → Machine
+machineFrom vs gpe0-sts gpe0-en gpe1-sts gpe1-en = walked (cellsFrom vs gpe0-sts gpe0-en gpe1-sts gpe1-en)
 
 -- ---- what a reader asks
 

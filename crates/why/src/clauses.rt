@@ -36,5 +36,8 @@ pub(crate) fn clause(broken: Clause) {
         Clause::SlpTypB => say(b"PM1b_CNT has a SLP_TYP, and PM1b_CNT_BLK is zero\n"),
         // Nor this one.
         Clause::OneValue => say(b"a field has a value that no text gives\n"),
+        Clause::GpePending => say(
+            b"what is stored of the general events is not what their bytes say\n",
+        ),
     }
 }

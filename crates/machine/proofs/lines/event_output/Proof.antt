@@ -5,11 +5,8 @@ use Rattle.machine.proofs.lines.event_output.Tie as tie
 pm1-event-requires : tie.Need-pm1-event-requires
 pm1-event-requires c κs = search needs
 
-gpe-event-requires : tie.Need-gpe-event-requires
-gpe-event-requires c κs = search needs
-
 returns : tie.Need-returns
-returns c = simp (c .gpe-event .ensures, c .before .pm1-event .ensures)
+returns c = simp (c .before .pm1-event .ensures)
 
 pub event-output-spec : {M : Type 1} → statement M
-event-output-spec = tie.close (tie.spec pm1-event-requires gpe-event-requires returns)
+event-output-spec = tie.close (tie.spec pm1-event-requires returns)

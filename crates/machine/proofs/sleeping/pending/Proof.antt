@@ -9,12 +9,9 @@ wake-bits-requires c κs = search needs
 has-bit-requires : tie.Need-has-bit-requires
 has-bit-requires c κs = search needs
 
-gpe-event-requires : tie.Need-gpe-event-requires
-gpe-event-requires c κs = search needs
-
 returns : tie.Need-returns
 unfolding pending
-returns c = simp (c .gpe-event .ensures, c .before .has-bit .ensures, c .before .before .wake-bits .ensures)
+returns c = simp (c .before .has-bit .ensures, c .before .before .wake-bits .ensures)
 
 pub pending-spec : {M : Type 1} → statement M
-pending-spec = tie.close (tie.spec wake-bits-requires has-bit-requires gpe-event-requires returns)
+pending-spec = tie.close (tie.spec wake-bits-requires has-bit-requires returns)
