@@ -12,7 +12,6 @@ ghost use mathlib.Core.Path.{_≡_};
 ghost use mathlib.Core.Bool.{cond, true};
 ghost use Rattle.bus.specs.GpeBytes.{gpeNumber};
 ghost use Rattle.machine.specs.Fields.{withEvent, withGpe, withCommand, withArbDis};
-ghost use Rattle.machine.specs.Lines.{walked};
 ghost use Rattle.model.specs.Bus.{timerRegister, readOf, writeOf};
 
 // A GPE block's bytes as cells, since a length is a byte: status bytes from 0 on, enable bytes from 256 on.
@@ -100,28 +99,27 @@ fn with_arb_dis(mut m: Machine, arb_dis: bool) -> Machine
     m
 }
 
-// A status byte, or an enable byte, is written; then enabled bits are looked for.
 fn with_gpe_sts(mut m: Machine, b: bool, sts: [u8; GPE_BYTES]) -> Machine
-    ensures { λ r. ⌜ r ≡ walked (withGpe m (cond b (m .«gpe0_sts») sts) (m .«gpe0_en») (cond b sts (m .«gpe1_sts»)) (m .«gpe1_en») (m .«gpe_pending»)) ⌝ }
+    ensures { λ r. ⌜ r ≡ withGpe m (cond b (m .«gpe0_sts») sts) (m .«gpe0_en») (cond b sts (m .«gpe1_sts»)) (m .«gpe1_en») (m .«gpe_pending») ⌝ }
 {
     if b {
         m.gpe1_sts = sts;
-        m.walk_gpe()
+        m
     } else {
         m.gpe0_sts = sts;
-        m.walk_gpe()
+        m
     }
 }
 
 fn with_gpe_en(mut m: Machine, b: bool, en: [u8; GPE_BYTES]) -> Machine
-    ensures { λ r. ⌜ r ≡ walked (withGpe m (m .«gpe0_sts») (cond b (m .«gpe0_en») en) (m .«gpe1_sts») (cond b en (m .«gpe1_en»)) (m .«gpe_pending»)) ⌝ }
+    ensures { λ r. ⌜ r ≡ withGpe m (m .«gpe0_sts») (cond b (m .«gpe0_en») en) (m .«gpe1_sts») (cond b en (m .«gpe1_en»)) (m .«gpe_pending») ⌝ }
 {
     if b {
         m.gpe1_en = en;
-        m.walk_gpe()
+        m
     } else {
         m.gpe0_en = en;
-        m.walk_gpe()
+        m
     }
 }
 
@@ -169,8 +167,14 @@ pub(crate) fn write_cells(m: Machine, r: Register, width: u32, offset: u64, writ
         Register::Gpe(b) => {
             let number = gpe_number(s, b, offset);
             match number {
-                0..=255 => with_gpe_sts(m, b, registers::gpe_sts_cleared(m, b, offset, written)),
-                _ => with_gpe_en(m, b, registers::gpe_en_taken(m, b, offset, written)),
+                0..=255 => {
+                    let sts = registers::gpe_sts_cleared(m, b, offset, written);
+                    with_gpe_sts(m, b, sts).walk_gpe()
+                }
+                _ => {
+                    let en = registers::gpe_en_taken(m, b, offset, written);
+                    with_gpe_en(m, b, en).walk_gpe()
+                }
             }
         }
         Register::Nowhere => m,

@@ -1,7 +1,7 @@
--- The laws of `anyEnabled`: one turn of a loop over the rest of both lists, which gathers the bits that are set in both, and its end;
--- and what one more status bit does. Assumes nothing.
+-- The laws of `anyEnabled`: one turn of a loop over the rest of both lists, and its end; and what one more status bit does.
+-- Assumes nothing.
 use mathlib.Core.Path.{_≡_, refl, sym, _∙_, ap}
-use mathlib.Core.Bool.{Bool, true, false, not, _||_, or-false, or-assoc}
+use mathlib.Core.Bool.{Bool, true, false, not, _||_, or-assoc}
 use mathlib.Core.List.{List, [], _∷_}
 use Prim.Native.Nat.{ℕ, zero, suc, _+_, _≤_, _<_}
 use native.Mathlib.Nat.{le-of-suc-le-suc, not-suc-le-zero}
@@ -15,14 +15,26 @@ use Rattle.bits.proofs.Algebra.{masked-or, and-absorbs-or}
 use Rattle.machine.specs.Status.{hasBit}
 use Rattle.machine.specs.Lines.{anyEnabled}
 
--- ---- bits gathered
+module _ (ss es : List ℕ) (i : ℕ) where
+  -- one turn: the bytes at i, then the rest
+  pub any-enabled-turn : i < length ss → i < length es
+      → anyEnabled (drop i ss) (drop i es) ≡ (hasBit (getD ss i 0) (getD es i 0) || anyEnabled (drop (i + 1) ss) (drop (i + 1) es))
+  unfolding anyEnabled
+  any-enabled-turn h k = rw (drop-cons ss i 0 h, drop-cons es i 0 k, add-one) refl
+
+  -- the end: nothing is left
+  pub any-enabled-end : length ss ≤ i → anyEnabled (drop i ss) (drop i es) ≡ false
+  unfolding anyEnabled
+  any-enabled-end h = rw (drop-of-length-le ss h) refl
+
+-- ---- one more status bit
 
 -- a bit is set
-abbrev pub some : ℕ → Bool
+abbrev some : ℕ → Bool
 some x = not (eqb x 0)
 
 -- an or has a bit exactly if one of the two has
-pub some-or : (a b : ℕ) → some (bitOr a b) ≡ (some a || some b)
+some-or : (a b : ℕ) → some (bitOr a b) ≡ (some a || some b)
 some-or a b = go (eqb a 0) refl
   where
     go : (t : Bool) → eqb a 0 ≡ t → some (bitOr a b) ≡ (some a || some b)
@@ -32,35 +44,10 @@ some-or a b = go (eqb a 0) refl
         rw (e, ne-eqb (bitOr a b) 0 (λ z. eqb-false a 0 e (lost z))) refl
 
 -- one more bit is among those of a mask, or those before were
-pub has-bit-or : (x bit mask : ℕ) → hasBit (bitOr x bit) mask ≡ (hasBit mask bit || hasBit x mask)
+has-bit-or : (x bit mask : ℕ) → hasBit (bitOr x bit) mask ≡ (hasBit mask bit || hasBit x mask)
 unfolding hasBit
 has-bit-or x bit mask =
     rw (or-comm x bit, masked-or bit x mask, and-comm bit mask) (some-or (bitAnd mask bit) (bitAnd x mask))
-
--- ---- the loop
-
-module _ (ss es : List ℕ) (i : ℕ) where
-  -- one turn: the bytes at i, then the rest
-  any-enabled-turn : i < length ss → i < length es
-      → anyEnabled (drop i ss) (drop i es) ≡ (hasBit (getD ss i 0) (getD es i 0) || anyEnabled (drop (i + 1) ss) (drop (i + 1) es))
-  unfolding anyEnabled
-  any-enabled-turn h k = rw (drop-cons ss i 0 h, drop-cons es i 0 k, add-one) refl
-
-  -- one turn, with what was gathered before it
-  pub gathered-turn : (both : ℕ) → i < length ss → i < length es
-      → (some (bitOr both (bitAnd (getD ss i 0) (getD es i 0))) || anyEnabled (drop (i + 1) ss) (drop (i + 1) es))
-      ≡ (some both || anyEnabled (drop i ss) (drop i es))
-  unfolding hasBit
-  gathered-turn both h k =
-      rw (any-enabled-turn h k, some-or both (bitAnd (getD ss i 0) (getD es i 0)))
-      (or-assoc (some both) (some (bitAnd (getD ss i 0) (getD es i 0))) (anyEnabled (drop (i + 1) ss) (drop (i + 1) es)))
-
-  -- the end: nothing is left
-  pub gathered-end : (both : ℕ) → length ss ≤ i → some both ≡ (some both || anyEnabled (drop i ss) (drop i es))
-  unfolding anyEnabled
-  gathered-end both h = rw (drop-of-length-le ss h) (sym (or-false (some both)))
-
--- ---- one more status bit
 
 -- the order of two tests is free
 pub or-swapped : (a b c : Bool) → (a || (b || c)) ≡ (b || (a || c))

@@ -2,6 +2,7 @@
 use crate::GPE_BYTES;
 use crate::Machine;
 use crate::status::has_bit;
+use crate::status::has_bit8;
 use cells::Column;
 ghost use mathlib.Core.Path.{_≡_};
 ghost use Rattle.machine.specs.Lines.{awake, anyEnabled, walked, pm1Event, eventOutput, sciOf, smiOf};
@@ -13,17 +14,18 @@ pub fn awake(m: Machine) -> bool
     m.state == 0
 }
 
-// Whether some general status bit is set together with its enable. All bytes are looked at, which the compiler makes wide.
+// Whether some general status bit is set together with its enable.
 fn any_enabled(sts: [u8; GPE_BYTES], en: [u8; GPE_BYTES]) -> bool
     ensures { λ r. ⌜ r ≡ anyEnabled sts en ⌝ }
 {
-    let mut both: u8 = 0;
     let mut i = 0;
     while i < GPE_BYTES {
-        both = both | (sts[i] & en[i]);
+        if has_bit8(sts[i], en[i]) {
+            return true;
+        }
         i += 1;
     }
-    both != 0
+    false
 }
 
 impl Machine {

@@ -76,11 +76,17 @@ gpe-sts-cleared-requires c κs = search needs
 with-gpe-sts-requires : tie.Need-with-gpe-sts-requires
 with-gpe-sts-requires c κs = search needs
 
+walk-gpe-requires : tie.Need-walk-gpe-requires
+walk-gpe-requires c κs = search needs
+
 gpe-en-taken-requires : tie.Need-gpe-en-taken-requires
 gpe-en-taken-requires c κs = search needs
 
 with-gpe-en-requires : tie.Need-with-gpe-en-requires
 with-gpe-en-requires c κs = search needs
+
+walk-gpe-requires-2 : tie.Need-walk-gpe-requires-2
+walk-gpe-requires-2 c κs = search needs
 
 enum-told-4 : tie.Need-enum-told-4
 enum-told-4 c = search needs
@@ -131,11 +137,11 @@ returns-9 c = simp (c .enum-told3 .given .1)
 
 returns-10 : tie.Need-returns-10
 unfolding writeOf
-returns-10 c = simp (c .with-gpe-sts .ensures, c .before .gpe-sts-cleared .ensures, status-byte-written (c .before .before .before .before .before .before .before .before .args .m) _ _ (c .before .before .before .before .before .before .before .before .args .written) (cell-in-status _ _ _ _ (c .before .before .before .gpe-number .ensures) (c .before .before .if1 .taken)), c .before .before .before .before .before .r3 .given .1)
+returns-10 c = simp (c .walk-gpe .ensures, c .before .with-gpe-sts .ensures, c .before .before .gpe-sts-cleared .ensures, status-byte-written (c .before .before .before .before .before .before .before .before .before .args .m) _ _ (c .before .before .before .before .before .before .before .before .before .args .written) (cell-in-status _ _ _ _ (c .before .before .before .before .gpe-number .ensures) (c .before .before .before .if1 .taken)), c .before .before .before .before .before .before .r3 .given .1)
 
 returns-11 : tie.Need-returns-11
 unfolding writeOf
-returns-11 c = simp (c .with-gpe-en .ensures, c .before .gpe-en-taken .ensures, enable-byte-written (c .before .before .before .before .before .before .before .before .args .m) _ _ (c .before .before .before .before .before .before .before .before .args .written) (cell-past-status _ _ _ _ (c .before .before .before .gpe-number .ensures) (c .before .before .if1 .left)), c .before .before .before .before .before .r3 .given .1)
+returns-11 c = simp (c .walk-gpe2 .ensures, c .before .with-gpe-en .ensures, c .before .before .gpe-en-taken .ensures, enable-byte-written (c .before .before .before .before .before .before .before .before .before .args .m) _ _ (c .before .before .before .before .before .before .before .before .before .args .written) (cell-past-status _ _ _ _ (c .before .before .before .before .gpe-number .ensures) (c .before .before .before .if1 .left)), c .before .before .before .before .before .before .r3 .given .1)
 
 returns-12 : tie.Need-returns-12
 unfolding writeOf
@@ -168,8 +174,10 @@ write-cells-spec =
     gpe-number-requires
     gpe-sts-cleared-requires
     with-gpe-sts-requires
+    walk-gpe-requires
     gpe-en-taken-requires
     with-gpe-en-requires
+    walk-gpe-requires-2
     enum-told-4
     returns
     returns-2
