@@ -76,6 +76,15 @@ const OTHERS: &[&str] = &[
     "completing: with a low byte",
     "completing: 27 by S0's pair",
     "completing: 27 by another pair",
+    "pending: by an event",
+    "pending: by an enable, the bit was set",
+    "pending: no longer, the status cleared",
+    "pending: no longer, the enable cleared",
+    "pending: no longer, a press in S5",
+    "pending: still, one of several cleared",
+    "pending: still, in the other block",
+    "pending: not by an event, its enable clear",
+    "pending: not by an enable, no bit set",
     "arming: SLP_EN at A arms",
     "arming: SLP_EN at A while armed",
     "arming: disarmed at A",
@@ -151,6 +160,8 @@ const SAVED: &[&str] = &[
     "saved: status and enables at B",
     "saved: status and enables of GPE0",
     "saved: status and enables of GPE1",
+    "saved: one of GPE0 pending",
+    "saved: one of GPE1 pending",
 ];
 
 /// The numbers of reading.
@@ -314,6 +325,8 @@ impl Coverage {
         let both = |gpe: &Gpe| gpe.status != [0; 8] && gpe.enable != [0; 8];
         self.count_if(both(&machine.gpe[0]), "saved: status and enables of GPE0");
         self.count_if(both(&machine.gpe[1]), "saved: status and enables of GPE1");
+        self.count_if(machine.gpe[0].event(), "saved: one of GPE0 pending");
+        self.count_if(machine.gpe[1].event(), "saved: one of GPE1 pending");
     }
 
     /// Counts a saved text; an error where the model does not answer what its kind says.
@@ -350,6 +363,7 @@ impl Coverage {
         self.count(&format!("{word}: {answer}"));
         self.count(&format!("state S{}", after.state));
         self.lines(after);
+        self.pending(before, step, after);
         if let Step::Write { port, data, .. } = *step {
             if let Some((block, written)) = control_write(before, step) {
                 self.control(before, block, written, answer, after);
@@ -386,6 +400,30 @@ impl Coverage {
             self.count_if(by_event, "line: SMI by an event");
             self.count_if(!by_event && after.command.is_some() && !after.release, "line: SMI by a command");
             self.count_if(!by_event && after.command.is_none() && after.release, "line: SMI by the release flag");
+        }
+    }
+
+    /// Whether a general status bit is set together with its enable, before a step that changes either and after it.
+    fn pending(&mut self, before: &Machine, step: &Step, after: &Machine) {
+        if before.gpe == after.gpe {
+            return;
+        }
+        let [was, is] = [before, after].map(|machine| machine.gpe.map(|gpe| gpe.event()));
+        let enables = |machine: &Machine| machine.gpe.map(|gpe| gpe.enable);
+        let enabling = enables(before) != enables(after);
+        match (was != [false; 2], is != [false; 2]) {
+            (false, true) if enabling => self.count("pending: by an enable, the bit was set"),
+            (false, true) => self.count("pending: by an event"),
+            (true, false) if before.state == 5 => self.count("pending: no longer, a press in S5"),
+            (true, false) if enabling => self.count("pending: no longer, the enable cleared"),
+            (true, false) => self.count("pending: no longer, the status cleared"),
+            (true, true) => {
+                let cleared = matches!(step, Step::Write { .. }) && !enabling;
+                self.count_if(cleared && was == is, "pending: still, one of several cleared");
+                self.count_if(cleared && was != is, "pending: still, in the other block");
+            }
+            (false, false) if enabling => self.count("pending: not by an enable, no bit set"),
+            (false, false) => self.count_if(matches!(step, Step::Event(_)), "pending: not by an event, its enable clear"),
         }
     }
 
