@@ -24,8 +24,12 @@ use Rattle.values.specs.Agree.{agreeing}
 use Rattle.values.specs.Values.{valuesOf, valuesAgree}
 use Rattle.values.proofs.Fits.{read-fits}
 use Rattle.values.proofs.RoundTrip.{machine-back}
+use Rattle.split_access.specs.ByWalk.{ByWalkFrom}
 use Rattle.split_access.specs.Claims.{MovesFrom}
+use Rattle.split_access.specs.WakesAtOnce.{WakesAtOnceFrom}
 use Rattle.split_access.specs.WriteBack.{WritesBackFrom}
+use Rattle.split_access.proofs.ByWalk.{by-walk-from-legal}
+use Rattle.split_access.proofs.WakesAtOnce.{wakes-at-once-from-legal}
 use Rattle.split_access.proofs.Legal.{legal-after, all-legal, demand-3-from-legal, write-back-from-legal}
 use Rattle.saved.specs.Text.{newest, Parts, parts, textOf, partsOf, savedText}
 use Rattle.saved.specs.Reading.{editionUpTo, editionOf, partsIn, machineOf, machineIn, wellFormed, legalText, malformedLine, textAnswer, legalAnswer, isDone, firstRefusal, readAs, readParts, readIn, readOf}
@@ -191,3 +195,10 @@ demand-3-read-back text e = demand-3-from-legal (readOf text .machine) (accepted
 -- and the write-back after any steps from it
 pub write-back-read-back : FromRead (λ m. (steps : List Step) → WritesBackFrom stepOf (afterAll after m steps))
 write-back-read-back text e steps = write-back-from-legal (readOf text .machine) (accepted-legal text e) steps
+
+-- no sleep with a bit pending, after any steps from it; and all that they show is the walk's
+pub wakes-at-once-read-back : FromRead (λ m. (steps : List Step) → WakesAtOnceFrom stepOf (afterAll after m steps))
+wakes-at-once-read-back text e steps = wakes-at-once-from-legal (readOf text .machine) (accepted-legal text e) steps
+
+pub by-walk-read-back : FromRead ByWalkFrom
+by-walk-read-back text e = by-walk-from-legal (readOf text .machine) (accepted-legal text e)
