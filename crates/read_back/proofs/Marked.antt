@@ -1,4 +1,5 @@
 -- The clauses that only say "one value for each meaning" are broken by no well formed text: what a form would not write does not stand in one.
+-- Nor is the clause on what is stored of the general events, by any text: the reader looks for it.
 -- Assumes nothing.
 use mathlib.Core.Bool.{Bool, true, false, not, cond, _&&_, _||_}
 use mathlib.Core.List.{List, [], _∷_, _++_, append-assoc}
@@ -20,7 +21,8 @@ use Rattle.records.proofs.RowFacts.{unsound, sound, Sound, rows-sound}
 use Rattle.records.proofs.ReadBack.{digits-there, in-past}
 use Rattle.platform.specs.Blocks.{block, present}
 use Rattle.platform.specs.Legal.{strayLength}
-use Rattle.model.specs.Legal.{commandByteLegal, slpTypsLegal}
+use Rattle.model.specs.Legal.{commandByteLegal, slpTypsLegal, gpePendingLegal}
+use Rattle.model.proofs.Legal.{means-walk}
 use Rattle.legality.specs.Legality.{oneValue}
 use Rattle.values.specs.Values.{byteIn}
 use Rattle.saved.specs.Text.{Parts, editionLine, own0, own1, gpeText, textOf, recordsAt}
@@ -115,3 +117,6 @@ module _ (edition : ℕ) (text : List ℕ) (known : edition ≡ 0 → ⊥) (w : 
         typ-small (getD vs 33 0 / 2 ^ 10),
       )
       refl
+
+pub reading-walks : (edition : ℕ) (text : List ℕ) → gpePendingLegal (machineIn edition text) ≡ true
+reading-walks edition text = means-walk (machineIn edition text) refl
