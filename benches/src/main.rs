@@ -16,12 +16,17 @@ const TABLE: &[u8] = include_bytes!("../../examples/ward/platform.fadt");
 /// Where the table's PM1a event block begins.
 const BASE: u64 = 0x400;
 
+/// No general event is enabled: none is pending whatever the status bytes are, and a search for one goes to its end.
+const ENABLES: u8 = 0;
+
 const LIMIT: usize = 65_536;
 const ROOM: usize = 1 << 20;
 const REPEATS: usize = 15;
 
 enum Work {
     Steps(u32),
+    General,
+    Lines,
     SetUp,
     Session,
     Write,
@@ -31,7 +36,7 @@ enum Work {
 struct Row {
     name: &'static str,
     work: Work,
-    /// The table's numbers are of a unit: so many of them in a turn. A round has five steps.
+    /// The table's numbers are of a unit: so many of them in a turn. A round has four or five steps.
     units: f64,
     turns: u64,
     counted: u64,
@@ -50,13 +55,14 @@ struct Given {
 }
 
 fn rows(lines: usize) -> Vec<Row> {
-    let steps = |name, row, units| Row {
+    let short = |name, work, units| Row {
         name,
-        work: Work::Steps(row),
+        work,
         units,
         turns: 210_000,
         counted: 2100,
     };
+    let steps = |name, row, units| short(name, Work::Steps(row), units);
     let text = |name, work| Row {
         name,
         work,
@@ -72,6 +78,8 @@ fn rows(lines: usize) -> Vec<Row> {
         steps("tick(2^32 - 1)", 4, 1.0),
         steps("interrupt round, whole", 5, 0.2),
         steps("sleep and wake round, whole", 6, 0.2),
+        short("general event round, whole", Work::General, 0.25),
+        short("SCI and SMI", Work::Lines, 1.0),
         Row {
             name: "setting up",
             work: Work::SetUp,
@@ -121,6 +129,10 @@ fn run(row: &Row, side: Side, turns: u64, given: &mut Given) -> (u64, Vec<u8>) {
     match (&row.work, side) {
         (Work::Steps(number), Side::Ours) => (ours::steps(table, base, black_box(*number), turns), Vec::new()),
         (Work::Steps(number), Side::Plain) => (plain::steps(table, base, black_box(*number), turns), Vec::new()),
+        (Work::General, Side::Ours) => (ours::general(table, base, turns), Vec::new()),
+        (Work::General, Side::Plain) => (plain::general(table, base, turns), Vec::new()),
+        (Work::Lines, Side::Ours) => (ours::lines(table, black_box(ENABLES), turns), Vec::new()),
+        (Work::Lines, Side::Plain) => (plain::lines(table, black_box(ENABLES), turns), Vec::new()),
         (Work::SetUp, Side::Ours) => (ours::set_up(table, turns), Vec::new()),
         (Work::SetUp, Side::Plain) => (plain::set_up(table, turns), Vec::new()),
         (Work::Session, Side::Ours) => (ours::session(table, &given.script, &mut given.buffer, turns), Vec::new()),

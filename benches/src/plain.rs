@@ -1,5 +1,5 @@
-//! The same loops over the plain model of `tests/model`, step by step as in `crates/speed_steps/specs`; and over the
-//! saved text of `saved.rs`, as in `crates/speed_saved/specs`.
+//! The same loops over the plain model of `tests/model`, step by step as in `crates/speed_steps/specs` and
+//! `crates/speed_general/specs`; and over the saved text of `saved.rs`, as in `crates/speed_saved/specs`.
 
 use std::hint::black_box;
 
@@ -103,6 +103,16 @@ fn step_at(row: Row, k: u64, p: &Ports, older: u32) -> Step {
 }
 
 impl Run {
+    fn prepared(mut machine: Machine) -> Run {
+        prepare(&mut machine);
+        Run {
+            machine,
+            value: 0,
+            older: 0,
+            sum: 0,
+        }
+    }
+
     fn done(&mut self, step: &Step) {
         let (number, value) = self.machine.step(step);
         self.older = self.value;
@@ -112,9 +122,20 @@ impl Run {
 
     fn lines_if(&mut self, row: Row, k: u64) {
         if let (Row::Interrupt, 4) = (row, k) {
-            let lines = u64::from(self.machine.sci()) + 2 * u64::from(self.machine.smi());
-            self.sum = self.sum.wrapping_add(lines);
+            self.lines();
         }
+    }
+
+    /// SCI counts 1, and SMI 2.
+    fn lines(&mut self) {
+        let lines = u64::from(self.machine.sci()) + 2 * u64::from(self.machine.smi());
+        self.sum = self.sum.wrapping_add(lines);
+    }
+
+    fn sum(&self) -> u64 {
+        self.sum
+            .wrapping_add(self.machine.status.into())
+            .wrapping_add(self.machine.counter.into())
     }
 }
 
@@ -133,16 +154,10 @@ pub fn steps(table: &[u8], base: u64, row: u32, n: u64) -> u64 {
         cnt_a: base.wrapping_add(0x04),
         cnt_b: base.wrapping_add(0x44),
     };
-    let Ok(mut machine) = set_up_machine(table, &settings(false)) else {
+    let Ok(machine) = set_up_machine(table, &settings(false)) else {
         return 0;
     };
-    prepare(&mut machine);
-    let mut run = Run {
-        machine,
-        value: 0,
-        older: 0,
-        sum: 0,
-    };
+    let mut run = Run::prepared(machine);
     let row = row_of(row);
     let mut k = 0;
     for _ in 0..n {
@@ -150,9 +165,55 @@ pub fn steps(table: &[u8], base: u64, row: u32, n: u64) -> u64 {
         run.lines_if(row, k);
         k = if k < last_of(row) { k + 1 } else { 0 };
     }
+    run.sum()
+}
+
+/// General event 3 enabled, raised, its status read and cleared.
+fn general_at(k: u64, gpe_sts: u64, gpe_en: u64) -> Step {
+    let write = |port| Step::Write { port, width: 1, data: 8 };
+    match k {
+        0 => write(gpe_en),
+        1 => Step::Event(3),
+        2 => Step::Read { port: gpe_sts, width: 1 },
+        _ => write(gpe_sts),
+    }
+}
+
+#[inline(never)]
+pub fn general(table: &[u8], base: u64, n: u64) -> u64 {
+    let (gpe_sts, gpe_en) = (base.wrapping_add(0x20), base.wrapping_add(0x22));
+    let Ok(machine) = set_up_machine(table, &settings(false)) else {
+        return 0;
+    };
+    let mut run = Run::prepared(machine);
+    let mut k = 0;
+    for _ in 0..n {
+        run.done(&general_at(k, gpe_sts, gpe_en));
+        if k == 3 {
+            run.lines();
+        }
+        k = if k < 3 { k + 1 } else { 0 };
+    }
+    run.sum()
+}
+
+#[inline(never)]
+pub fn lines(table: &[u8], enables: u8, n: u64) -> u64 {
+    let Ok(machine) = set_up_machine(table, &settings(false)) else {
+        return 0;
+    };
+    let mut run = Run::prepared(machine);
+    for block in &mut run.machine.gpe {
+        block.enable = [enables; 8];
+    }
+    for _ in 0..n {
+        run.machine.status = run.sum as u16;
+        run.machine.gpe[0].status = [run.sum as u8; 8];
+        run.machine.gpe[1].status = [(run.sum >> 8) as u8; 8];
+        run.lines();
+        run.sum = run.sum.wrapping_add(257);
+    }
     run.sum
-        .wrapping_add(run.machine.status.into())
-        .wrapping_add(run.machine.counter.into())
 }
 
 #[inline(never)]

@@ -1,31 +1,22 @@
 -- The rows of steps: each row's steps in their order, n steps round and round, and the number that a run gives.
-use mathlib.Core.Bool.{true, false, cond}
+use mathlib.Core.Bool.{false, cond}
 use mathlib.Core.List.{List, [], _∷_}
 use Prim.Native.Nat.{ℕ, zero, suc, _+_}
 use lib.Dec.{eqb, ltb}
 use lib.ListN.{getD}
-use Rattle.machine.specs.Fields.{withEvent, withSciEn}
-use Rattle.machine.specs.Lines.{sciOf, smiOf}
-use Rattle.machine.specs.declared.Machine.{Machine}
-use Rattle.model.specs.Answer.{stepNumber, stepValue}
-use Rattle.model.specs.Step.{stepOf}
 use Rattle.model.specs.declared.Event.{Event}
 use Rattle.model.specs.declared.Event.the-variants as event
 use Rattle.model.specs.declared.Step.{Step}
 use Rattle.model.specs.declared.Step.the-variants as step
-use Rattle.speed_steps.specs.SetUps.{plus, setUpHere}
+use Rattle.speed_runs.specs.Runs.{plus, setUpHere, preparedOf, runStep, linesAdded, sumOf}
+use Rattle.speed_runs.specs.declared.Run.{Run}
 use Rattle.speed_steps.specs.declared.Ports.{Ports}
 use Rattle.speed_steps.specs.declared.Row.{Row}
 use Rattle.speed_steps.specs.declared.Row.the-variants as row
-use Rattle.speed_steps.specs.declared.Run.{Run}
 
 -- PM1 status and control: block A from base on, block B 40 hex further
 unfoldable pub portsOf : ℕ → Ports
 portsOf base = record { «sts_a» = base; «sts_b» = plus base 64; «cnt_a» = plus base 4; «cnt_b» = plus base 68 }
-
--- before the first step: SCI_EN, PWRBTN_EN, RTC_EN and BM set
-unfoldable pub preparedOf : Machine → Run
-preparedOf m = record { machine = withSciEn (withEvent m 16 1280) true; value = 0; older = 0; sum = 0 }
 
 -- ---- the rows
 
@@ -90,26 +81,6 @@ nextPlace r k = cond (ltb k (lastOf r)) (k + 1) 0
 
 -- ---- a run
 
--- one step: its answer's number and value are added
-unfoldable pub runStep : Run → Step → Run
-runStep r s =
-    record {
-      machine = stepOf (r .machine) s .machine;
-      value = stepValue (stepOf (r .machine) s .answer);
-      older = r .value;
-      sum = plus (r .sum) (stepNumber (stepOf (r .machine) s .answer) + stepValue (stepOf (r .machine) s .answer));
-    }
-
--- SCI counts 1, and SMI 2
-unfoldable pub linesAdded : Run → Run
-linesAdded r =
-    record {
-      machine = r .machine;
-      value = r .value;
-      older = r .older;
-      sum = plus (plus (r .sum) (cond (sciOf (r .machine)) 1 0)) (cond (smiOf (r .machine)) 2 0);
-    }
-
 -- the lines are added at the end of an interrupt round
 unfoldable pub linesIf : Row → ℕ → Run → Run
 linesIf row.StatusRead k r = r
@@ -124,10 +95,6 @@ linesIf row.Sleep k r = r
 unfoldable pub runSteps : Row → Ports → ℕ → ℕ → Run → Run
 runSteps x p zero k r = r
 runSteps x p (suc n) k r = runSteps x p n (nextPlace x k) (linesIf x k (runStep r (stepAt x k p (r .older))))
-
--- the sum, with the status cells and the counter at the end
-unfoldable pub sumOf : Run → ℕ
-sumOf r = plus (plus (r .sum) (r .machine .«pm1_sts»)) (r .machine .counter)
 
 -- the run whole: set up as in the worked session, prepared, n steps
 unfoldable pub stepsRun : List ℕ → ℕ → ℕ → ℕ → ℕ

@@ -1,26 +1,11 @@
--- The row that sets up, n times; and what every row sets up.
-use mathlib.Core.Bool.{Bool, cond}
-use mathlib.Core.List.{List, [], _∷_}
-use Prim.Native.Nat.{ℕ, zero, suc, _+_, _%_, _^_}
+-- The row that sets up, n times.
+use mathlib.Core.Bool.{cond}
+use mathlib.Core.List.{List}
+use Prim.Native.Nat.{ℕ, zero, suc, _%_}
 use lib.Dec.{eqb}
 use Rattle.platform.specs.Answer.{setUpNumber}
-use Rattle.machine.specs.SetUp.{setUpOf}
 use Rattle.machine.specs.declared.SetUp.{SetUp}
-
--- a sum of 64 bits
-abbrev pub plus : ℕ → ℕ → ℕ
-plus sum n = (sum + n) % 2 ^ 64
-
--- "platform 0400 0000 0 00 - - 52 - 70"
-abbrev pub eventHomes : ℕ
-eventHomes = 1024
-
-abbrev pub pairs : List (List ℕ)
-pairs = (0 ∷ 0 ∷ []) ∷ (255 ∷ 255 ∷ []) ∷ (255 ∷ 255 ∷ []) ∷ (5 ∷ 2 ∷ []) ∷ (255 ∷ 255 ∷ []) ∷ (7 ∷ 0 ∷ []) ∷ []
-
--- the worked session's host, with or without the override
-abbrev pub setUpHere : List ℕ → Bool → SetUp
-setUpHere table power-override = setUpOf table eventHomes 0 power-override pairs
+use Rattle.speed_runs.specs.Runs.{plus, setUpHere}
 
 -- one more, with the override where the sum so far is odd; its number, and 3 or 1 by the override kept, are added
 abbrev pub setUpWith : List ℕ → ℕ → SetUp

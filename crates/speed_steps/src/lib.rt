@@ -1,15 +1,17 @@
 // The work that benches/ measures: steps of a row one after the other, and setting up, n times, each with one number that depends on all of it.
-use machine::Machine;
-use machine::sci;
-use machine::smi;
 use model::Access;
 use model::Event;
 use model::Step;
+use speed_runs::Run;
+use speed_runs::done;
+use speed_runs::lines;
+use speed_runs::prepared;
+use speed_runs::set_up;
+use speed_runs::sum;
 use std::num::wrapping_add_u64;
 ghost use mathlib.Core.Path.{_≡_};
 ghost use Rattle.speed_steps.specs.Rows.{
   portsOf,
-  preparedOf,
   rowOf,
   lastOf,
   eventAt,
@@ -17,21 +19,13 @@ ghost use Rattle.speed_steps.specs.Rows.{
   sleepAt,
   stepAt,
   nextPlace,
-  runStep,
-  linesAdded,
   linesIf,
   readAt,
   writeAt,
   runSteps,
-  sumOf,
   stepsRun,
 };
 ghost use Rattle.speed_steps.specs.SetUps.{setUpTurn, setUpsOf};
-
-// The worked session's homes and sleep type pairs.
-const EVENT_HOMES: u16 = 0x0400;
-
-const PAIRS: [[u8; 2]; 6] = [[0, 0], [255, 255], [255, 255], [5, 2], [255, 255], [7, 0]];
 
 // The ports of PM1 status and control in blocks A and B.
 pub struct Ports {
@@ -39,14 +33,6 @@ pub struct Ports {
     pub sts_b: u64,
     pub cnt_a: u64,
     pub cnt_b: u64,
-}
-
-// A machine, the values of its last step and of the one before, and the sum of all numbers and values.
-pub struct Run {
-    pub machine: Machine,
-    pub value: u32,
-    pub older: u32,
-    pub sum: u64,
 }
 
 pub enum Row {
@@ -68,22 +54,6 @@ fn ports_from(base: u64) -> Ports
         sts_b: wrapping_add_u64(base, 0x40),
         cnt_a: wrapping_add_u64(base, 0x04),
         cnt_b: wrapping_add_u64(base, 0x44),
-    }
-}
-
-// SCI_EN, PWRBTN_EN, RTC_EN and BM set.
-fn prepared(m: Machine) -> Run
-    ensures { λ r. ⌜ r ≡ preparedOf m ⌝ }
-{
-    let mut machine = m;
-    machine.pm1_sts = 0x0010;
-    machine.pm1_en = 0x0500;
-    machine.sci_en = true;
-    Run {
-        machine,
-        value: 0,
-        older: 0,
-        sum: 0,
     }
 }
 
@@ -188,37 +158,6 @@ fn next_place(row: Row, k: u64) -> u64
     if k < last_of(row) { k + 1 } else { 0 }
 }
 
-// One step, its answer's number and value added to the sum.
-fn done(r: Run, s: Step) -> Run
-    ensures { λ result. ⌜ result ≡ runStep r s ⌝ }
-{
-    let stepped = step::step(r.machine, s);
-    let answer = stepped.answer;
-    let value = model::value(answer);
-    let number = model::number(answer) as u64 + value as u64;
-    let machine = stepped.machine;
-    Run {
-        machine,
-        value,
-        older: r.value,
-        sum: wrapping_add_u64(r.sum, number),
-    }
-}
-
-// SCI and SMI, added to the sum.
-fn lines(r: Run) -> Run
-    ensures { λ result. ⌜ result ≡ linesAdded r ⌝ }
-{
-    let machine = r.machine;
-    let with_sci = wrapping_add_u64(r.sum, bits::pick64(sci(machine), 1, 0));
-    Run {
-        machine,
-        value: r.value,
-        older: r.older,
-        sum: wrapping_add_u64(with_sci, bits::pick64(smi(machine), 2, 0)),
-    }
-}
-
 // The lines at the end of an interrupt round.
 fn lines_if(row: Row, k: u64, r: Run) -> Run
     ensures { λ result. ⌜ result ≡ linesIf row k r ⌝ }
@@ -255,20 +194,12 @@ fn steps(start: Run, row: Row, p: Ports, n: u64) -> Run
     r
 }
 
-// The sum, with the status cells and the counter at the end.
-fn sum(r: Run) -> u64
-    ensures { λ result. ⌜ result ≡ sumOf r ⌝ }
-{
-    let m = r.machine;
-    wrapping_add_u64(wrapping_add_u64(r.sum, m.pm1_sts as u64), m.counter as u64)
-}
-
 // n steps of a row, on the machine of a table whose PM1 blocks begin at base.
 #[no_mangle]
 pub extern "C" fn speed_run_steps(table: &[u8], base: u64, row: u32, n: u64) -> u64
     ensures { λ r. ⌜ r ≡ stepsRun (now (table .entry)) base row n ⌝ }
 {
-    let made = machine::set_up(table, EVENT_HOMES, 0, false, PAIRS);
+    let made = set_up(table, false);
     let p = ports_from(base);
     sum(steps(prepared(made.machine), row_of(row), p, n))
 }
@@ -277,7 +208,7 @@ pub extern "C" fn speed_run_steps(table: &[u8], base: u64, row: u32, n: u64) -> 
 fn set_up_turn(table: &[u8], sum: u64) -> u64
     ensures { λ r. ⌜ r ≡ setUpTurn (now (table .entry)) sum ⌝ }
 {
-    let made = machine::set_up(table, EVENT_HOMES, 0, sum % 2 == 1, PAIRS);
+    let made = set_up(table, sum % 2 == 1);
     let answer = made.answer;
     let machine = made.machine;
     let settings = machine.settings;

@@ -1,9 +1,9 @@
 -- `speed_steps::event_at` meets its contract: each arm is what the list has at its place, and past the last place there is the default. Assumes nothing.
-use mathlib.Core.Path.{_≡_, sym}
+use mathlib.Core.Path.{sym}
 use Prim.Native.Nat.{ℕ, _≤_, zero-le}
 use lib.ListN.{List·getD-eq-default}
 use Rattle.speed_steps.specs.Rows.{events, eventAt}
-use Rattle.speed_steps.proofs.Laws.{past}
+use Rattle.speed_runs.proofs.Places.{past}
 use Rattle.model.specs.declared.Event.the-variants as event
 use Rattle.speed_steps.proofs.event_at.Statement.{statement}
 use Rattle.speed_steps.proofs.event_at.Tie as tie

@@ -1,11 +1,11 @@
 -- `speed_steps::interrupt_at` meets its contract: each arm is what the list has at its place, and past the last place there is the default.
 -- Assumes nothing.
-use mathlib.Core.Path.{_≡_, sym, _∙_}
-use Prim.Native.Nat.{ℕ, _≤_, zero-le}
+use mathlib.Core.Path.{sym, _∙_}
+use Prim.Native.Nat.{_≤_, zero-le}
 use borrow.Author.Needs.{needs}
 use lib.ListN.{List·getD-eq-default}
-use Rattle.speed_steps.specs.Rows.{readAt, writeAt, interrupt, interruptAt}
-use Rattle.speed_steps.proofs.Laws.{past}
+use Rattle.speed_steps.specs.Rows.{writeAt, interrupt, interruptAt}
+use Rattle.speed_runs.proofs.Places.{past}
 use Rattle.speed_steps.proofs.interrupt_at.Statement.{statement}
 use Rattle.speed_steps.proofs.interrupt_at.Tie as tie
 

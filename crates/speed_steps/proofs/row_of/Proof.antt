@@ -1,9 +1,9 @@
 -- `speed_steps::row_of` meets its contract: each arm is what the list has at its place, and past the last place there is the default. Assumes nothing.
-use mathlib.Core.Path.{_≡_, sym}
+use mathlib.Core.Path.{sym}
 use Prim.Native.Nat.{ℕ, _≤_, zero-le}
 use lib.ListN.{List·getD-eq-default}
 use Rattle.speed_steps.specs.Rows.{rows, rowOf}
-use Rattle.speed_steps.proofs.Laws.{past}
+use Rattle.speed_runs.proofs.Places.{past}
 use Rattle.speed_steps.specs.declared.Row.the-variants as row
 use Rattle.speed_steps.proofs.row_of.Statement.{statement}
 use Rattle.speed_steps.proofs.row_of.Tie as tie

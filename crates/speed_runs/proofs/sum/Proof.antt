@@ -1,7 +1,7 @@
-use Rattle.speed_steps.specs.Rows.{sumOf}
+use Rattle.speed_runs.specs.Runs.{sumOf}
 use borrow.Author.Needs.{needs}
-use Rattle.speed_steps.proofs.sum.Statement.{statement}
-use Rattle.speed_steps.proofs.sum.Tie as tie
+use Rattle.speed_runs.proofs.sum.Statement.{statement}
+use Rattle.speed_runs.proofs.sum.Tie as tie
 
 cast-wrapping-add-u64 : tie.Need-cast-wrapping-add-u64
 cast-wrapping-add-u64 c = search needs

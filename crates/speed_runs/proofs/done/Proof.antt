@@ -1,7 +1,7 @@
-use Rattle.speed_steps.specs.Rows.{runStep}
+use Rattle.speed_runs.specs.Runs.{runStep}
 use borrow.Author.Needs.{needs}
-use Rattle.speed_steps.proofs.done.Statement.{statement}
-use Rattle.speed_steps.proofs.done.Tie as tie
+use Rattle.speed_runs.proofs.done.Statement.{statement}
+use Rattle.speed_runs.proofs.done.Tie as tie
 
 step-requires : tie.Need-step-requires
 step-requires c κs = search needs

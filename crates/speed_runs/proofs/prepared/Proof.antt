@@ -1,7 +1,7 @@
 use mathlib.Core.Path.{refl}
-use Rattle.speed_steps.specs.Rows.{preparedOf}
-use Rattle.speed_steps.proofs.prepared.Statement.{statement}
-use Rattle.speed_steps.proofs.prepared.Tie as tie
+use Rattle.speed_runs.specs.Runs.{preparedOf}
+use Rattle.speed_runs.proofs.prepared.Statement.{statement}
+use Rattle.speed_runs.proofs.prepared.Tie as tie
 
 returns : tie.Need-returns
 unfolding preparedOf

@@ -1,7 +1,7 @@
-use Rattle.speed_steps.specs.Rows.{linesAdded}
+use Rattle.speed_runs.specs.Runs.{linesAdded}
 use borrow.Author.Needs.{needs}
-use Rattle.speed_steps.proofs.lines.Statement.{statement}
-use Rattle.speed_steps.proofs.lines.Tie as tie
+use Rattle.speed_runs.proofs.lines.Statement.{statement}
+use Rattle.speed_runs.proofs.lines.Tie as tie
 
 sci-requires : tie.Need-sci-requires
 sci-requires c κs = search needs

@@ -1,0 +1,2 @@
+pub mod GeneralRound
+pub mod LinesAlone
