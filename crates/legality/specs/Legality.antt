@@ -1,4 +1,4 @@
--- The first clause of W2's list that a machine breaks. That a machine breaks none exactly if it passes the list is `listed-exactly` of `proofs/Laws.antt`.
+-- The first clause of W2's list, and after it W7's, that a machine breaks. That a machine breaks none exactly if it passes the list is `listed-exactly` of `proofs/Laws.antt`.
 use mathlib.Core.Bool.{Bool, true, false, not, cond, _&&_}
 use Rattle.platform.specs.Answer.{ifDone, firstFailing}
 use Rattle.platform.specs.Legal.{strayLength}

@@ -1,4 +1,4 @@
-// Whether a machine passes the list of request W2, document 02, and if not the first clause that it breaks.
+// Whether a machine passes the list of request W2, document 02, and request W7's clause, and if not the first clause that it breaks.
 mod clauses;
 
 pub use clauses::judge;
@@ -10,7 +10,7 @@ pub enum Legality {
     Breaks(Clause),
 }
 
-// The clauses in the list's order; the comments quote it.
+// The clauses in the list's order, which the comments quote; last request W7's.
 pub enum Clause {
     // "settings pass rules 5 to 12": the first that refuses
     Settings(SetUpRefusal),
@@ -36,6 +36,6 @@ pub enum Clause {
     SlpTypB,
     // one value for each meaning: no text can break it
     OneValue,
-    // request W7, "A legal machine has it right": what is stored is what the walk over the general event bytes finds; no text can break it
+    // "A legal machine has it right": what is stored is what the walk over the general event bytes finds; no text can break it
     GpePending,
 }

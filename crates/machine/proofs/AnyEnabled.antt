@@ -7,7 +7,7 @@ use Prim.Native.Nat.{ℕ, zero, suc, _+_, _≤_, _<_}
 use native.Mathlib.Nat.{le-of-suc-le-suc, not-suc-le-zero}
 use native.Mathlib.Numerals.{add-one}
 use borrow.Author.Tests.{eqb-true, eqb-false, ne-eqb}
-use lib.Bits.{bitAnd, bitOr, and-comm, and-zero-r, or-comm, or-zero-r}
+use lib.Bits.{bitAnd, bitOr, and-comm, and-zero-r, or-comm, or-zero-l}
 use lib.Dec.{eqb}
 use lib.ListN.{length, getD, set, drop, drop-of-length-le}
 use lib.Seq.{drop-cons}
@@ -38,7 +38,7 @@ some-or : (a b : ℕ) → some (bitOr a b) ≡ (some a || some b)
 some-or a b = go (eqb a 0) refl
   where
     go : (t : Bool) → eqb a 0 ≡ t → some (bitOr a b) ≡ (some a || some b)
-    go true e = rw (eqb-true a 0 e, or-comm 0 b, or-zero-r b) refl
+    go true e = rw (eqb-true a 0 e, or-zero-l b) refl
     go false e =
         let lost : bitOr a b ≡ 0 → a ≡ 0 = λ z. sym (and-absorbs-or a b) ∙ ap (bitAnd a) z ∙ and-zero-r a in
         rw (e, ne-eqb (bitOr a b) 0 (λ z. eqb-false a 0 e (lost z))) refl

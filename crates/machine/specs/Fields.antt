@@ -67,7 +67,7 @@ withSettings m s = made s (pm1Cells m) (gpeCells m) (timeAndButton m) (commandLa
 abbrev pub withEvent : Machine → ℕ → ℕ → Machine
 withEvent m pm1-sts pm1-en = made (m .settings) (pm1-sts, pm1-en) (gpeCells m) (timeAndButton m) (commandLatch m) (controlCells m) (mode m)
 
--- the general event cells
+-- the general event cells, and whether one is pending
 abbrev pub withGpe : Machine → List ℕ → List ℕ → List ℕ → List ℕ → Bool → Machine
 withGpe m gpe0-sts gpe0-en gpe1-sts gpe1-en gpe-pending =
     made (m .settings) (pm1Cells m) (gpe0-sts, gpe0-en, gpe1-sts, gpe1-en, gpe-pending) (timeAndButton m) (commandLatch m) (controlCells m) (mode m)

@@ -30,7 +30,7 @@ woken source m = enter (withEvent m (bitOr (m .«pm1_sts») wakBit) (m .«pm1_en
 abbrev pub wokenIf : WakeSource → Bool → Machine → Machine
 wokenIf source test m = cond (isSleeping (m .state) && test) (woken source m) m
 
--- "one of the enabled bits 8, 9, 10 .. or an enabled GPE is already set"
+-- "one of the enabled bits 8, 9, 10 .. or an enabled GPE is already set"; the GPE is taken from what is stored (request W7)
 unfoldable pub pending : Machine → ℕ → Bool
 pending m state = hasBit (bitAnd (m .«pm1_sts») (m .«pm1_en»)) (wakeBits (m .settings) state) || m .«gpe_pending»
 

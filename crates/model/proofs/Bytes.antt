@@ -120,8 +120,8 @@ gpe-at-most b some none = go (present b) refl
     go true e = some e .2
     go false e = rw (none e) (lit≤ tt)
 
-pub event-byte : (size own : ℕ) (xs : List ℕ) (k : ℕ) → size ≤ gpeLongest → k < 4 * size → Bytes own xs → k / 8 < length xs
-event-byte size own xs k most h b = rw (b .size) (omega arith)
+pub event-has-byte : (size own : ℕ) (xs : List ℕ) (k : ℕ) → size ≤ gpeLongest → k < 4 * size → Bytes own xs → k / 8 < length xs
+event-has-byte size own xs k most h b = rw (b .size) (omega arith)
 
 module _ (m : Machine) (b : Bool) (offset written : ℕ) where
   pub status-written : Bytes (gpeHalf (m .settings) b) (gpeSts m b) → Bytes (gpeHalf (m .settings) b) (gpeStsAfter m b offset written)

@@ -37,7 +37,7 @@ use Rattle.model.specs.Events.{inS5, inGpe0, inGpe1, withBit, isEnabled,
 use Rattle.model.specs.Legal.{onlyIf, statusLegal, enablesLegal, bytesLegal, gpeLegal, arbDisLegal, stateAllowed, stateLegal, counterLegal, holdLegal, buttonLegal, commandLegal, armedLegal, slpTypBLegal, commandByteLegal, slpTypsLegal, gpePendingLegal, listed, notTwo, settingsFit, fitsTypes, legal}
 use Rattle.model.specs.Step.{after}
 use Rattle.model.specs.declared.Step.{Step}
-use Rattle.model.proofs.Bytes.{Bytes, bytes-mean, mean-bytes, no-bytes, bytes-with-bit, even-length, gpe-at-most, event-byte, status-written, enable-written}
+use Rattle.model.proofs.Bytes.{Bytes, bytes-mean, mean-bytes, no-bytes, bytes-with-bit, even-length, gpe-at-most, event-has-byte, status-written, enable-written}
 use Rattle.model.proofs.Fits.{set-up-fits}
 use Rattle.model.proofs.Fitted.{zero-within, or-within, part-within, wak-within}
 use Rattle.model.proofs.Kept.{ticked, overriddenBy, KeptRaising, KeptClearing, KeptEnabling, KeptLatching, KeptTaking, KeptControlling, KeptArbitrating, KeptSleeping, KeptWaking, KeptRestarting, KeptPressing, KeptReleasing, KeptTicking, KeptOverriding, Keeps, kept-by-steps}
@@ -291,14 +291,14 @@ general-bytes m k h p = go (ltb k (eventCount (m .settings .gpe0))) refl
     go true e =
         let low = ltb-true k _ e in
         let most = gpe-at-most (m .settings .gpe0) (p .0 .gpe0-length) (p .0 .gpe0-none) in
-        let place = event-byte (m .settings .gpe0 .length) _ (m .«gpe0_sts») k most low (p .1) in
+        let place = event-has-byte (m .settings .gpe0 .length) _ (m .«gpe0_sts») k most low (p .1) in
         rw e (p .0, bytes-with-bit (m .settings .gpe0 .length) (m .«gpe0_sts») k (even0 m p) low (p .1), p .2, p .3, p .4, walk-gpe0 m k place (p .5))
     go false e =
         let j = k - m .settings .«gpe1_base» in
         let inside : (leb (m .settings .«gpe1_base») k && ltb j (eventCount (m .settings .gpe1))) ≡ true = rw e at h in
         let low = ltb-true j _ (and-right (leb (m .settings .«gpe1_base») k) _ inside) in
         let most = gpe-at-most (m .settings .gpe1) (p .0 .gpe1-length) (p .0 .gpe1-none) in
-        let place = event-byte (m .settings .gpe1 .length) _ (m .«gpe1_sts») j most low (p .3) in
+        let place = event-has-byte (m .settings .gpe1 .length) _ (m .«gpe1_sts») j most low (p .3) in
         rw e (p .0, p .1, p .2, bytes-with-bit (m .settings .gpe1 .length) (m .«gpe1_sts») j (even1 m p) low (p .3), p .4, walk-gpe1 m j place (p .5))
 
 -- no bit is set
@@ -312,8 +312,8 @@ gpe-keeps =
     let restarts : KeptRestarting Gpe = λ m f p. (p .0, no-bytes _, no-bytes _, no-bytes _, no-bytes _, no-walk) in
     search (bytes0-written, bytes1-written, general-bytes)
 
-pub gpe-kept : (m : Machine) (s : Step) → Gpe m → Gpe (after m s)
-gpe-kept m s p = kept-by-steps Gpe gpe-keeps m s p
+pub gpe-bytes-kept : (m : Machine) (s : Step) → Gpe m → Gpe (after m s)
+gpe-bytes-kept m s p = kept-by-steps Gpe gpe-keeps m s p
 
 -- ---- all of it
 
@@ -411,7 +411,7 @@ test-same : (a b : Bool) → a ≡ b → Bool·beq a b ≡ true
 test-same true b e = rw (← e) refl
 test-same false b e = rw (← e) refl
 
-pub walk-means : (m : Machine) → gpePendingLegal m ≡ true → WalkStored m
+walk-means : (m : Machine) → gpePendingLegal m ≡ true → WalkStored m
 unfolding gpePendingLegal
 walk-means m e = same-test (m .«gpe_pending») (gpeEvent m) e
 
@@ -424,19 +424,19 @@ pub legal-walk : (m : Machine) → legal m ≡ true → WalkStored m
 legal-walk m e = walk-means m (legal-means m e .gpe-pending)
 
 -- the two clauses on general event bytes, and what they mean
-gpe-mean : (m : Machine) → legalSettings (m .settings) ≡ true → gpeLegal m false ≡ true → gpeLegal m true ≡ true → gpePendingLegal m ≡ true → Gpe m
+gpe-mean : (m : Machine) → Legal m → Gpe m
 unfolding gpeLegal
-gpe-mean m s e f g = (
-  legal-guaranteed (m .settings) s,
-  bytes-mean _ (m .«gpe0_sts») (and-left _ _ e),
-  bytes-mean _ (m .«gpe0_en») (and-right (bytesLegal (m .settings .gpe0 .length / 2) (m .«gpe0_sts»)) _ e),
-  bytes-mean _ (m .«gpe1_sts») (and-left _ _ f),
-  bytes-mean _ (m .«gpe1_en») (and-right (bytesLegal (m .settings .gpe1 .length / 2) (m .«gpe1_sts»)) _ f),
-  walk-means m g,
+gpe-mean m l = (
+  legal-guaranteed (m .settings) (l .settings),
+  bytes-mean _ (m .«gpe0_sts») (and-left _ _ (l .gpe0)),
+  bytes-mean _ (m .«gpe0_en») (and-right (bytesLegal (m .settings .gpe0 .length / 2) (m .«gpe0_sts»)) _ (l .gpe0)),
+  bytes-mean _ (m .«gpe1_sts») (and-left _ _ (l .gpe1)),
+  bytes-mean _ (m .«gpe1_en») (and-right (bytesLegal (m .settings .gpe1 .length / 2) (m .«gpe1_sts»)) _ (l .gpe1)),
+  walk-means m (l .gpe-pending),
 )
 
 pub legal-gpe : (m : Machine) → legal m ≡ true → Gpe m
-legal-gpe m e = let l = legal-means m e in gpe-mean m (l .settings) (l .gpe0) (l .gpe1) (l .gpe-pending)
+legal-gpe m e = gpe-mean m (legal-means m e)
 
 mean-gpe : (m : Machine) → Gpe m → (gpeLegal m false ≡ true) × (gpeLegal m true ≡ true) × (gpePendingLegal m ≡ true)
 unfolding gpeLegal
@@ -450,7 +450,7 @@ mean-gpe m p = (
 pub clauses-kept : (m : Machine) (s : Step) → Legal m → Legal (after m s)
 clauses-kept m s l =
     let pm1 = kept-by-steps Pm1 pm1-keeps m s (l .status, l .enables) in
-    let gpe = mean-gpe (after m s) (gpe-kept m s (gpe-mean m (l .settings) (l .gpe0) (l .gpe1) (l .gpe-pending))) in
+    let gpe = mean-gpe (after m s) (gpe-bytes-kept m s (gpe-mean m l)) in
     let control = kept-by-steps Control control-keeps m s (l .slp-typ-b, l .slp-typs, l .arb-dis) in
     let sleep = kept-by-steps Sleep sleep-keeps m s (l .state, l .armed) in
     let button = kept-by-steps Button button-keeps m s (l .button, hold-held m (l .hold)) in

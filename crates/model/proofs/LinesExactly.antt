@@ -1,5 +1,6 @@
 -- When SCI and SMI are up, bit by bit. An and of two numbers is zero exactly if no bit is set in both, and the mask 0721 hex has the
--- bits 0, 5, 8, 9 and 10. From a machine that has the walk's answer stored, as every legal one has (`legal-walk` of `Legal.antt`).
+-- bits 0, 5, 8, 9 and 10. What the lines take from the stored answer of the walk is so where it is stored, as in every legal machine (`legal-walk` of
+-- `Legal.antt`).
 -- Assumes nothing.
 use Prim.Native.Nat.{ℕ, zero, suc, _/_, _%_, min}
 use mathlib.Core.Path.{_≡_, refl, sym, _∙_, ap}

@@ -77,14 +77,14 @@ readOf m register.Nowhere width offset = 0
 
 -- ---- writes
 
--- a byte of GPE0, or of GPE1, is written
+-- the bytes after a byte of GPE0, or of GPE1, is written
 abbrev pub gpeBytesWritten : Machine → Bool → ℕ → ℕ → Machine
 gpeBytesWritten m false offset written =
     withGpe m (gpeStsAfter m false offset written) (gpeEnAfter m false offset written) (m .«gpe1_sts») (m .«gpe1_en») (m .«gpe_pending»)
 gpeBytesWritten m true offset written =
     withGpe m (m .«gpe0_sts») (m .«gpe0_en») (gpeStsAfter m true offset written) (gpeEnAfter m true offset written) (m .«gpe_pending»)
 
--- .. and whether an enabled bit is set is looked for again: request W7
+-- a byte is written, and whether an enabled bit is set is looked for again: request W7
 abbrev pub gpeWritten : Machine → Bool → ℕ → ℕ → Machine
 gpeWritten m b offset written = walked (gpeBytesWritten m b offset written)
 

@@ -196,9 +196,9 @@ demand-3-read-back text e = demand-3-from-legal (readOf text .machine) (accepted
 pub write-back-read-back : FromRead (λ m. (steps : List Step) → WritesBackFrom stepOf (afterAll after m steps))
 write-back-read-back text e steps = write-back-from-legal (readOf text .machine) (accepted-legal text e) steps
 
--- no sleep with a bit pending, after any steps from it; and all that they show is the walk's
+-- no sleep with a bit pending, and all answers and lines the walk's, after any steps from it
 pub wakes-at-once-read-back : FromRead (λ m. (steps : List Step) → WakesAtOnceFrom stepOf (afterAll after m steps))
 wakes-at-once-read-back text e steps = wakes-at-once-from-legal (readOf text .machine) (accepted-legal text e) steps
 
-pub by-walk-read-back : FromRead ByWalkFrom
-by-walk-read-back text e = by-walk-from-legal (readOf text .machine) (accepted-legal text e)
+pub by-walk-read-back : FromRead (λ m. (steps : List Step) → ByWalkFrom stepOf (afterAll after m steps))
+by-walk-read-back text e steps = by-walk-from-legal (readOf text .machine) (accepted-legal text e) steps

@@ -13,8 +13,8 @@ abbrev pub allBytes : ℕ → List ℕ
 allBytes x = replicate gpeBytes x
 
 -- every general enable byte the same; gpe_pending is kept here and below, which is right where they are zero
-unfoldable pub generalEnabled : Machine → ℕ → Machine
-generalEnabled m enables = withGpe m (m .«gpe0_sts») (allBytes enables) (m .«gpe1_sts») (allBytes enables) (m .«gpe_pending»)
+unfoldable pub allEnabled : Machine → ℕ → Machine
+allEnabled m enables = withGpe m (m .«gpe0_sts») (allBytes enables) (m .«gpe1_sts») (allBytes enables) (m .«gpe_pending»)
 
 -- PM1 status the sum's low 16 bits, every status byte of GPE0 its low 8, and of GPE1 the next 8
 unfoldable pub statusFrom : Machine → ℕ → Machine
@@ -36,4 +36,4 @@ linesTurns (suc n) r = linesTurns n (linesTurn r)
 
 -- the run whole: set up as in the worked session, every general enable byte as given, prepared, n turns
 unfoldable pub linesRun : List ℕ → ℕ → ℕ → ℕ
-linesRun table enables n = linesTurns n (preparedOf (generalEnabled (setUpHere table false .machine) enables)) .sum
+linesRun table enables n = linesTurns n (preparedOf (allEnabled (setUpHere table false .machine) enables)) .sum

@@ -14,7 +14,7 @@ use speed_runs::sum;
 use std::num::wrapping_add_u64;
 ghost use mathlib.Core.Path.{_≡_};
 ghost use Rattle.speed_general.specs.GeneralRound.{portsOf, readAt, writeAt, generalAt, nextPlace, linesIf, generalSteps, generalRun};
-ghost use Rattle.speed_general.specs.LinesAlone.{generalEnabled, statusFrom, linesTurn, linesTurns, linesRun};
+ghost use Rattle.speed_general.specs.LinesAlone.{allEnabled, statusFrom, linesTurn, linesTurns, linesRun};
 
 // The ports of GPE0's first status and enable byte.
 pub struct Ports {
@@ -99,8 +99,8 @@ pub extern "C" fn speed_run_general(table: &[u8], base: u64, n: u64) -> u64
 }
 
 // Every general enable byte the same. gpe_pending is kept, here and below, which is right where they are zero.
-fn general_enabled(mut m: Machine, enables: u8) -> Machine
-    ensures { λ r. ⌜ r ≡ generalEnabled m enables ⌝ }
+fn all_enabled(mut m: Machine, enables: u8) -> Machine
+    ensures { λ r. ⌜ r ≡ allEnabled m enables ⌝ }
 {
     m.gpe0_en = [enables; GPE_BYTES];
     m.gpe1_en = [enables; GPE_BYTES];
@@ -157,7 +157,7 @@ pub extern "C" fn speed_run_lines(table: &[u8], enables: u8, n: u64) -> u64
     ensures { λ r. ⌜ r ≡ linesRun (now (table .entry)) enables n ⌝ }
 {
     let made = set_up(table, false);
-    let enabled = general_enabled(made.machine, enables);
+    let enabled = all_enabled(made.machine, enables);
     let r = lines_turns(prepared(enabled), n);
     r.sum
 }

@@ -1,4 +1,4 @@
--- What fails: the three faulty steps, the write-back without its exemption, and demand 3 with mixed gaps or with the other side moved; each by a list of
+-- What fails: the faulty steps, the write-back without its exemption, and demand 3 with mixed gaps or with the other side moved; each by a list of
 -- a few steps on the worked platform.
 -- Every premise is computed, and the conclusion says that two different values are equal. Assumes nothing.
 use mathlib.Core.Bool.{true, false, false≢true}
@@ -10,6 +10,8 @@ use native.Mathlib.Omega.{arith}
 use Rattle.runs.specs.Items.{Item, event, stepsOf, Every}
 use Rattle.platform.specs.Blocks.{present}
 use Rattle.machine.specs.Fields.{withEvent, withButton, withTime}
+use Rattle.registers.specs.Registers.{inGpeStatus, gpeStsAfter, gpeEnAfter}
+use Rattle.machine.specs.Lines.{smiOf}
 use Rattle.machine.specs.SetUp.{setUpOf}
 use Rattle.model.specs.Answer.{stepValue}
 use Rattle.model.specs.Step.{stepOf}
@@ -22,7 +24,8 @@ use Rattle.split_access.specs.Gap.{before}
 use Rattle.split_access.specs.Claims.{reads, GapStep, gap-step, Gap, ItemOn, event-item, MovesBy, Demand3By, Demand3}
 use Rattle.split_access.specs.WriteBack.{Round, RoundOn, WritesBackBy, WritesBackFrom, WriteBackBy, WriteBack}
 use Rattle.split_access.specs.WakesAtOnce.{WakesAtOnceFrom, WakesAtOnce}
-use Rattle.split_access.specs.Faulty.{clearsAll, oneRegister, ignoresPending, MixedItemOn, otherSide, EveryBit}
+use Rattle.split_access.specs.ByWalk.{ByWalkFrom, ByWalk}
+use Rattle.split_access.specs.Faulty.{clearsAll, oneRegister, ignoresPending, leavesPending, MixedItemOn, otherSide, EveryBit}
 use Rattle.split_access.proofs.Platform.{platform, machine, here, here-after, alarmInB, pressInB, alarm-homes, press-homes, steps-compute}
 
 -- accesses of two bytes
@@ -79,6 +82,21 @@ pub pending-ignored-refuted : WakesAtOnce setUpOf ignoresPending → ⊥
 unfolding steps-compute
 pending-ignored-refuted w =
     false≢true (sym (here-after alarmInB ignoresPending (WakesAtOnceFrom ignoresPending) alarm-homes w alarmThenA (write 0x444 0x2800) refl refl))
+
+-- ---- what is stored of the general events
+
+-- one byte written
+abbrev writeByte : ℕ → ℕ → Step
+writeByte port written = step.Write (record { port = port; width = 1 }) written
+
+-- general event 3 is enabled while its bit is set
+abbrev enabledLate : List Step
+enabledLate = step.Event (event.General 3) ∷ writeByte 0x422 0x08 ∷ []
+
+-- SMI stays down, where the walk finds the bit
+pub pending-left-refuted : ByWalk setUpOf leavesPending → ⊥
+unfolding steps-compute smiOf inGpeStatus gpeStsAfter gpeEnAfter
+pending-left-refuted w = false≢true (here-after alarmInB leavesPending (ByWalkFrom leavesPending) alarm-homes w enabledLate .smi)
 
 -- ---- the write-back without its exemption
 

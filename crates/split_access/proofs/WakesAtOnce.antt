@@ -23,7 +23,7 @@ use Rattle.model.proofs.Ticks.{cond-ap}
 use Rattle.runs.specs.Items.{after as afterAll}
 use Rattle.split_access.specs.Start.{AfterLegal}
 use Rattle.split_access.specs.WakesAtOnce.{WakesAtOnceFrom, WakesAtOnce}
-use Rattle.split_access.proofs.ByWalk.{gpe-after}
+use Rattle.split_access.proofs.ByWalk.{walk-after}
 use Rattle.split_access.proofs.Effects.{On, event-affects, on-or-off}
 
 -- from m, if the state is one of S1 to S4, nothing is pending for it
@@ -116,8 +116,8 @@ pub wakes-at-once-from : (m : Machine) → WalkStored m → WakesAtOnceFrom step
 wakes-at-once-from m stored x z l = rw (stored-walked m stored) (step-rests m z x l)
 
 -- after any steps from general event bytes that are right
-pub wakes-at-once-after : (m : Machine) (steps : List Step) → Gpe m → WakesAtOnceFrom stepOf (afterAll after m steps)
-wakes-at-once-after m steps p = wakes-at-once-from (afterAll after m steps) (gpe-after m steps p .5)
+wakes-at-once-after : (m : Machine) (steps : List Step) → Gpe m → WakesAtOnceFrom stepOf (afterAll after m steps)
+wakes-at-once-after m steps p = wakes-at-once-from (afterAll after m steps) (walk-after m steps p)
 
 -- "after any steps from setting up"
 pub wakes-at-once : WakesAtOnce setUpOf stepOf

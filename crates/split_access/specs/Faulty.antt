@@ -1,4 +1,5 @@
--- Three steps that were paid for and failed, demand 3 changed in two ways, and the write-back without its exemption.
+-- Three steps that were paid for and failed, one that does not look for pending general events, demand 3 changed in two ways, and the write-back without
+-- its exemption.
 -- That each is wrong is shown in `proofs/Refuted.antt`. The numbered quotations are the customer's demands'.
 use mathlib.Core.Bool.{Bool, true, false, not, cond, _&&_}
 use Prim.Native.Nat.{ℕ}
@@ -8,7 +9,7 @@ use Rattle.runs.specs.Items.{Item, Every}
 use Rattle.platform.specs.Fitted.{statusCells}
 use Rattle.platform.specs.declared.settings.Settings.{Settings}
 use Rattle.registers.specs.Registers.{shown, placed, covered, inStatus}
-use Rattle.machine.specs.Fields.{withEvent, enter}
+use Rattle.machine.specs.Fields.{withEvent, withGpe, enter}
 use Rattle.machine.specs.declared.Machine.{Machine}
 use Rattle.model.specs.Bus.{writeOf}
 use Rattle.model.specs.Control.{completes, namedState, controlled}
@@ -90,6 +91,13 @@ sentToSleep m register.Nowhere width offset written = writeOf m register.Nowhere
 
 abbrev pub ignoresPending : Stepping
 ignoresPending = writingBy (λ m a written. sentToSleep m (registerOf m a) (a .width) (offsetOf m a) written)
+
+-- request W7 left out: a write leaves what is stored of the general events as it was
+abbrev pub unlooked : Machine → Machine → Machine
+unlooked m n = withGpe n (n .«gpe0_sts») (n .«gpe0_en») (n .«gpe1_sts») (n .«gpe1_en») (m .«gpe_pending»)
+
+abbrev pub leavesPending : Stepping
+leavesPending = writingBy (λ m a written. unlooked m (after m (step.Write a written)))
 
 -- ---- the claims
 

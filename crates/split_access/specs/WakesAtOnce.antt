@@ -8,7 +8,8 @@ use Rattle.model.specs.declared.Step.{Step}
 use Rattle.split_access.specs.Start.{SettingUp, Stepping, nextBy, InS0, AfterSteps}
 
 -- "If on completing S1 to S4 one of the enabled bits 8, 9, 10 (bit 10 in S4 only with flag 7) or an enabled GPE is already set, the machine wakes in the
--- same step.": a step that takes the machine from S0 to one of S1 to S4, and leaves it there, found no such bit set, an enabled GPE by the walk
+-- same step.": a step that takes the machine from S0 to one of S1 to S4, and leaves it there, found no such bit set;
+-- for a GPE all general event bytes are looked at
 abbrev pub WakesAtOnceFrom : Stepping → Machine → Type 0
 WakesAtOnceFrom stepped m =
     (x : Step) → InS0 m

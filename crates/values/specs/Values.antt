@@ -158,20 +158,18 @@ controlBitIn vs n = bitIn vs 32 n || bitIn vs 33 n
 abbrev pub slpTypIn : List ℕ → ℕ → ℕ
 slpTypIn vs i = getD vs i 0 / 2 ^ «SLP_TYPx» % 8
 
--- the machine, with its general event bytes: GPE0_STS, GPE0_EN, GPE1_STS, GPE1_EN
-abbrev pub cellsFrom : List ℕ → List ℕ → List ℕ → List ℕ → List ℕ → Machine
-cellsFrom vs gpe0-sts gpe0-en gpe1-sts gpe1-en =
-    made (settingsFrom vs)
+-- the machine, with its general event bytes: GPE0_STS, GPE0_EN, GPE1_STS, GPE1_EN. Whether an enabled bit is set among them: "The saved text does not
+-- carry it; the reader works it out." (request W7)
+abbrev pub machineFrom : List ℕ → List ℕ → List ℕ → List ℕ → List ℕ → Machine
+machineFrom vs gpe0-sts gpe0-en gpe1-sts gpe1-en =
+    walked
+    (made (settingsFrom vs)
     (bitOr (wordIn vs 28) (wordIn vs 29), bitOr (wordIn vs 30) (wordIn vs 31))
     (gpe0-sts, gpe0-en, gpe1-sts, gpe1-en, false)
     (dwordIn vs 35, dwordIn vs 36, flagIn vs 37)
     (bitIn vs 38 8, byteIn vs 38)
     (controlBitIn vs «SCI_EN», controlBitIn vs «BM_RLD», flagIn vs 39, slpTypIn vs 32, slpTypIn vs 33, bitIn vs 34 «ARB_DIS»)
-    (flagIn vs 40, byteIn vs 41)
-
--- whether an enabled bit is set among them: "The saved text does not carry it; the reader works it out." (request W7)
-abbrev pub machineFrom : List ℕ → List ℕ → List ℕ → List ℕ → List ℕ → Machine
-machineFrom vs gpe0-sts gpe0-en gpe1-sts gpe1-en = walked (cellsFrom vs gpe0-sts gpe0-en gpe1-sts gpe1-en)
+    (flagIn vs 40, byteIn vs 41))
 
 -- ---- what a reader asks
 

@@ -16,7 +16,7 @@ ghost use Prim.Native.Nat.{_/_, _%_, _^_};
 ghost use lib.Dec.{eqb};
 ghost use Rattle.acpi.specs.Bits.{«SLP_TYPx»};
 ghost use Rattle.platform.specs.Blocks.{block};
-ghost use Rattle.values.specs.Values.{settingsFrom, cellsFrom, machineFrom, pairsIn};
+ghost use Rattle.values.specs.Values.{settingsFrom, machineFrom, pairsIn};
 
 fn low8(v: u64) -> u8
     ensures { λ r. ⌜ r ≡ v % 2 ^ 8 ⌝ }
@@ -120,20 +120,20 @@ fn settings_from(v: [u64; crate::VALUES]) -> Settings
     }
 }
 
-// The machine, from the values and its general event bytes, among which nothing has been looked for.
-fn cells_from(
+// The machine, from the values and its general event bytes; no record says whether an enabled general status bit is set, so it is looked for.
+pub fn machine_from(
     v: [u64; crate::VALUES],
     gpe0_sts: [u8; GPE_BYTES],
     gpe0_en: [u8; GPE_BYTES],
     gpe1_sts: [u8; GPE_BYTES],
     gpe1_en: [u8; GPE_BYTES],
 ) -> Machine
-    ensures { λ r. ⌜ r ≡ cellsFrom v «gpe0_sts» «gpe0_en» «gpe1_sts» «gpe1_en» ⌝ }
+    ensures { λ r. ⌜ r ≡ machineFrom v «gpe0_sts» «gpe0_en» «gpe1_sts» «gpe1_en» ⌝ }
 {
     let settings = settings_from(v);
     let cnt_a = v[32];
     let cnt_b = v[33];
-    Machine {
+    let m = Machine {
         settings,
         pm1_sts: low16(v[28]) | low16(v[29]),
         pm1_en: low16(v[30]) | low16(v[31]),
@@ -155,18 +155,6 @@ fn cells_from(
         arb_dis: bit(v[34], ARB_DIS),
         state: low8(v[41]),
         gpe_pending: false,
-    }
-}
-
-// The machine whole: no record says whether an enabled general status bit is set, so it is looked for.
-pub fn machine_from(
-    v: [u64; crate::VALUES],
-    gpe0_sts: [u8; GPE_BYTES],
-    gpe0_en: [u8; GPE_BYTES],
-    gpe1_sts: [u8; GPE_BYTES],
-    gpe1_en: [u8; GPE_BYTES],
-) -> Machine
-    ensures { λ r. ⌜ r ≡ machineFrom v «gpe0_sts» «gpe0_en» «gpe1_sts» «gpe1_en» ⌝ }
-{
-    cells_from(v, gpe0_sts, gpe0_en, gpe1_sts, gpe1_en).walk_gpe()
+    };
+    m.walk_gpe()
 }

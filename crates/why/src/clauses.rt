@@ -1,4 +1,4 @@
-// The clauses of request W2's list, document 02, a line each; they name the records concerned.
+// The clauses of legality, document 02, a line each; they name the records concerned.
 use crate::count;
 use crate::say;
 use crate::words::refusal;
@@ -34,7 +34,7 @@ pub(crate) fn clause(broken: Clause) {
         ),
         Clause::Armed => say(b"ARMED is 1, and STATE is not 0 or PM1b_CNT_BLK is zero\n"),
         Clause::SlpTypB => say(b"PM1b_CNT has a SLP_TYP, and PM1b_CNT_BLK is zero\n"),
-        // Nor this one.
+        // Nor these two.
         Clause::OneValue => say(b"a field has a value that no text gives\n"),
         Clause::GpePending => say(
             b"what is stored of the general events is not what their bytes say\n",

@@ -84,7 +84,7 @@ const OTHERS: &[&str] = &[
     "pending: still, one of several cleared",
     "pending: still, in the other block",
     "pending: not by an event, its enable clear",
-    "pending: not by an enable, no bit set",
+    "pending: not by an enable, its status clear",
     "arming: SLP_EN at A arms",
     "arming: SLP_EN at A while armed",
     "arming: disarmed at A",
@@ -403,27 +403,30 @@ impl Coverage {
         }
     }
 
-    /// Whether a general status bit is set together with its enable, before a step that changes either and after it.
+    /// The general status bits that are set together with their enables, before a step that changes either and after it.
     fn pending(&mut self, before: &Machine, step: &Step, after: &Machine) {
         if before.gpe == after.gpe {
             return;
         }
-        let [was, is] = [before, after].map(|machine| machine.gpe.map(|gpe| gpe.event()));
-        let enables = |machine: &Machine| machine.gpe.map(|gpe| gpe.enable);
-        let enabling = enables(before) != enables(after);
-        match (was != [false; 2], is != [false; 2]) {
-            (false, true) if enabling => self.count("pending: by an enable, the bit was set"),
+        let pairs = |gpe: &Gpe| (u64::from_le_bytes(gpe.status) & u64::from_le_bytes(gpe.enable)).count_ones();
+        let [was, is] = [before, after].map(|machine| machine.gpe.each_ref().map(pairs));
+        let enables = |machine: &Machine| machine.gpe.map(|gpe| u64::from_le_bytes(gpe.enable));
+        let (old, new) = (enables(before), enables(after));
+        let enabled = (0..2).any(|block| new[block] & !old[block] != 0);
+        let write = matches!(step, Step::Write { .. });
+        match (was != [0; 2], is != [0; 2]) {
+            (false, true) if write => self.count("pending: by an enable, the bit was set"),
             (false, true) => self.count("pending: by an event"),
-            (true, false) if before.state == 5 => self.count("pending: no longer, a press in S5"),
-            (true, false) if enabling => self.count("pending: no longer, the enable cleared"),
+            (true, false) if !write => self.count("pending: no longer, a press in S5"),
+            (true, false) if new != old => self.count("pending: no longer, the enable cleared"),
             (true, false) => self.count("pending: no longer, the status cleared"),
-            (true, true) => {
-                let cleared = matches!(step, Step::Write { .. }) && !enabling;
-                self.count_if(cleared && was == is, "pending: still, one of several cleared");
-                self.count_if(cleared && was != is, "pending: still, in the other block");
+            (true, true) if write && is.iter().sum::<u32>() < was.iter().sum() => {
+                let gone = (0..2).any(|block| was[block] != 0 && is[block] == 0);
+                self.count(if gone { "pending: still, in the other block" } else { "pending: still, one of several cleared" });
             }
-            (false, false) if enabling => self.count("pending: not by an enable, no bit set"),
-            (false, false) => self.count_if(matches!(step, Step::Event(_)), "pending: not by an event, its enable clear"),
+            (false, false) if write && enabled => self.count("pending: not by an enable, its status clear"),
+            (false, false) if !write && before.state != 5 => self.count("pending: not by an event, its enable clear"),
+            _ => {}
         }
     }
 
