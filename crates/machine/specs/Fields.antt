@@ -72,6 +72,10 @@ abbrev pub withGpe : Machine → List ℕ → List ℕ → List ℕ → List ℕ
 withGpe m gpe0-sts gpe0-en gpe1-sts gpe1-en gpe-pending =
     made (m .settings) (pm1Cells m) (gpe0-sts, gpe0-en, gpe1-sts, gpe1-en, gpe-pending) (timeAndButton m) (commandLatch m) (controlCells m) (mode m)
 
+-- whether one is pending
+abbrev pub withGpePending : Machine → Bool → Machine
+withGpePending m gpe-pending = withGpe m (m .«gpe0_sts») (m .«gpe0_en») (m .«gpe1_sts») (m .«gpe1_en») gpe-pending
+
 -- the PM1 control cells that a guest writes, the release flag and arming
 abbrev pub withControl : Machine → Bool → Bool → ℕ → ℕ → Bool → Machine
 withControl m bm-rld gbl-rls slp-typ-a slp-typ-b armed =

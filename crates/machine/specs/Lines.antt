@@ -5,7 +5,7 @@ use Prim.Native.Nat.{ℕ}
 use lib.Bits.{bitAnd}
 use lib.Dec.{eqb}
 use Rattle.machine.specs.declared.Machine.{Machine}
-use Rattle.machine.specs.Fields.{withGpe}
+use Rattle.machine.specs.Fields.{withGpePending}
 use Rattle.machine.specs.Status.{hasBit}
 
 -- "Awake is S0": document 01's word for the working state
@@ -24,7 +24,7 @@ gpeEvent m = anyEnabled (m .«gpe0_sts») (m .«gpe0_en») || anyEnabled (m .«g
 
 -- the machine with the walk's answer stored
 abbrev pub walked : Machine → Machine
-walked m = withGpe m (m .«gpe0_sts») (m .«gpe0_en») (m .«gpe1_sts») (m .«gpe1_en») (gpeEvent m)
+walked m = withGpePending m (gpeEvent m)
 
 -- "(PM1 status and enable and 0721 hex)": the bits of TMR_EN, GBL_EN, PWRBTN_EN, SLPBTN_EN and RTC_EN (`event-enables` of `acpi/proofs/Masks.antt`)
 abbrev pub pm1Event : Machine → Bool

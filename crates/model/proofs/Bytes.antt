@@ -104,22 +104,15 @@ bytes-with-bit size xs k even h b =
     let place : k % 8 < 8 = omega arith in
     bytes-set (size / 2) xs (k / 8) _ (omega arith) (or-lt 8 (getD xs (k / 8) 0) (2 ^ (k % 8)) (b .below (k / 8)) (pow-lt place)) b
 
--- a GPE block's length is even, and zero where it is absent
-pub even-length : (b : Block) → HasGpeLength b → HasNone b → b .length % 2 ≡ 0
-even-length b some none = go (present b) refl
+-- a GPE block's length is even and at most the longest, since it is zero where the block is absent
+pub gpe-length : (b : Block) → HasGpeLength b → HasNone b → (b .length % 2 ≡ 0) × (b .length ≤ gpeLongest)
+gpe-length b some none = go (present b) refl
   where
-    go : (t : Bool) → present b ≡ t → b .length % 2 ≡ 0
-    go true e = some e .0
-    go false e = rw (none e) refl
+    go : (t : Bool) → present b ≡ t → (b .length % 2 ≡ 0) × (b .length ≤ gpeLongest)
+    go true e = (some e .0, some e .2)
+    go false e = rw (none e) (refl, lit≤ tt)
 
--- and at most the longest, so that an event of the block has a byte
-pub gpe-at-most : (b : Block) → HasGpeLength b → HasNone b → b .length ≤ gpeLongest
-gpe-at-most b some none = go (present b) refl
-  where
-    go : (t : Bool) → present b ≡ t → b .length ≤ gpeLongest
-    go true e = some e .2
-    go false e = rw (none e) (lit≤ tt)
-
+-- so that an event of the block has a byte
 pub event-has-byte : (size own : ℕ) (xs : List ℕ) (k : ℕ) → size ≤ gpeLongest → k < 4 * size → Bytes own xs → k / 8 < length xs
 event-has-byte size own xs k most h b = rw (b .size) (omega arith)
 

@@ -18,7 +18,7 @@ use Rattle.clock.specs.Clock.{counterBits, holdLimit}
 use Rattle.platform.specs.Blocks.{present}
 use Rattle.platform.specs.Fitted.{statusCells, enableCells, wideTimer}
 use Rattle.platform.specs.Legal.{legalSettings, Guaranteed}
-use Rattle.platform.specs.Rules.{eventCount}
+use Rattle.platform.specs.Rules.{gpeLongest, eventCount}
 use Rattle.platform.specs.declared.rules.SetUpAnswer.the-variants as answer
 use Rattle.platform.specs.declared.settings.Settings.{Settings}
 use Rattle.platform.proofs.Legal.{legal-guaranteed}
@@ -33,11 +33,11 @@ use Rattle.machine.specs.declared.Machine.{Machine}
 use Rattle.machine.proofs.Accepted.{accepted-machine, accepted-legal}
 use Rattle.machine.proofs.AnyEnabled.{or-swapped, walk-with-bit}
 use Rattle.model.specs.Bus.{gpeWritten}
-use Rattle.model.specs.Events.{inS5, inGpe0, inGpe1, withBit, isEnabled, generalEnabled, generalRaised}
+use Rattle.model.specs.Events.{inS5, inGpe0, inGpe1, isEnabled, generalEnabled, generalRaised}
 use Rattle.model.specs.Legal.{onlyIf, statusLegal, enablesLegal, bytesLegal, gpeLegal, arbDisLegal, stateAllowed, stateLegal, counterLegal, holdLegal, buttonLegal, commandLegal, armedLegal, slpTypBLegal, commandByteLegal, slpTypsLegal, gpePendingLegal, listed, notTwo, settingsFit, fitsTypes, legal}
 use Rattle.model.specs.Step.{after}
 use Rattle.model.specs.declared.Step.{Step}
-use Rattle.model.proofs.Bytes.{Bytes, bytes-mean, mean-bytes, no-bytes, bytes-with-bit, even-length, gpe-at-most, event-has-byte, status-written, enable-written}
+use Rattle.model.proofs.Bytes.{Bytes, bytes-mean, mean-bytes, no-bytes, bytes-with-bit, gpe-length, event-has-byte, status-written, enable-written}
 use Rattle.model.proofs.Fits.{set-up-fits}
 use Rattle.model.proofs.Fitted.{zero-within, or-within, part-within, wak-within}
 use Rattle.model.proofs.Kept.{ticked, overriddenBy, KeptRaising, KeptClearing, KeptEnabling, KeptLatching, KeptTaking, KeptControlling, KeptArbitrating, KeptSleeping, KeptWaking, KeptRestarting, KeptPressing, KeptReleasing, KeptTicking, KeptOverriding, Keeps, kept-by-steps}
@@ -243,18 +243,18 @@ Gpe m =
     × Bytes (m .settings .gpe1 .length / 2) (m .«gpe1_en»)
     × WalkStored m
 
-even0 : (m : Machine) → Gpe m → m .settings .gpe0 .length % 2 ≡ 0
-even0 m p = even-length (m .settings .gpe0) (p .0 .gpe0-length) (p .0 .gpe0-none)
+length0 : (m : Machine) → Gpe m → (m .settings .gpe0 .length % 2 ≡ 0) × (m .settings .gpe0 .length ≤ gpeLongest)
+length0 m p = gpe-length (m .settings .gpe0) (p .0 .gpe0-length) (p .0 .gpe0-none)
 
-even1 : (m : Machine) → Gpe m → m .settings .gpe1 .length % 2 ≡ 0
-even1 m p = even-length (m .settings .gpe1) (p .0 .gpe1-length) (p .0 .gpe1-none)
+length1 : (m : Machine) → Gpe m → (m .settings .gpe1 .length % 2 ≡ 0) × (m .settings .gpe1 .length ≤ gpeLongest)
+length1 m p = gpe-length (m .settings .gpe1) (p .0 .gpe1-length) (p .0 .gpe1-none)
 
 module _ (m : Machine) (offset written : ℕ) where
   bytes0-written : offset < m .settings .gpe0 .length → Gpe m → Gpe (gpeWritten m false offset written)
   bytes0-written o p = (
     p .0,
     status-written m false offset written (p .1),
-    enable-written m false offset written (m .settings .gpe0 .length) refl (even0 m p) o (p .2),
+    enable-written m false offset written (m .settings .gpe0 .length) refl (length0 m p .0) o (p .2),
     p .3,
     p .4,
     refl,
@@ -266,23 +266,18 @@ module _ (m : Machine) (offset written : ℕ) where
     p .1,
     p .2,
     status-written m true offset written (p .3),
-    enable-written m true offset written (m .settings .gpe1 .length) refl (even1 m p) o (p .4),
+    enable-written m true offset written (m .settings .gpe1 .length) refl (length1 m p .0) o (p .4),
     refl,
   )
 
--- one more bit of GPE0, or of GPE1, with what was found before: the walk finds it where it is enabled
-walk-gpe0 : (m : Machine) (k : ℕ) → k / 8 < length (m .«gpe0_sts») → WalkStored m
-    → (isEnabled (m .«gpe0_en») k || m .«gpe_pending») ≡ (anyEnabled (withBit (m .«gpe0_sts») k) (m .«gpe0_en») || anyEnabled (m .«gpe1_sts») (m .«gpe1_en»))
-walk-gpe0 m k h stored =
-    rw (stored, walk-with-bit (m .«gpe0_sts») (m .«gpe0_en») (k / 8) (2 ^ (k % 8)) h)
-    (sym (or-assoc (isEnabled (m .«gpe0_en») k) (anyEnabled (m .«gpe0_sts») (m .«gpe0_en»)) (anyEnabled (m .«gpe1_sts») (m .«gpe1_en»))))
+-- the walk over GPE0, and over GPE1
+abbrev walk0 : Machine → Bool
+walk0 m = anyEnabled (m .«gpe0_sts») (m .«gpe0_en»)
 
-walk-gpe1 : (m : Machine) (k : ℕ) → k / 8 < length (m .«gpe1_sts») → WalkStored m
-    → (isEnabled (m .«gpe1_en») k || m .«gpe_pending») ≡ (anyEnabled (m .«gpe0_sts») (m .«gpe0_en») || anyEnabled (withBit (m .«gpe1_sts») k) (m .«gpe1_en»))
-walk-gpe1 m k h stored =
-    rw (stored, walk-with-bit (m .«gpe1_sts») (m .«gpe1_en») (k / 8) (2 ^ (k % 8)) h)
-    (or-swapped (isEnabled (m .«gpe1_en») k) (anyEnabled (m .«gpe0_sts») (m .«gpe0_en»)) (anyEnabled (m .«gpe1_sts») (m .«gpe1_en»)))
+abbrev walk1 : Machine → Bool
+walk1 m = anyEnabled (m .«gpe1_sts») (m .«gpe1_en»)
 
+-- a general event's bit: the walk finds it where it is enabled, and what it found before
 general-bytes : (m : Machine) (k : ℕ) → (inGpe0 (m .settings) k || inGpe1 (m .settings) k) ≡ true → Gpe m → Gpe (generalRaised m k)
 unfolding generalRaised generalEnabled inGpe0 inGpe1
 general-bytes m k h p = go (ltb k (eventCount (m .settings .gpe0))) refl
@@ -290,16 +285,20 @@ general-bytes m k h p = go (ltb k (eventCount (m .settings .gpe0))) refl
     go : (t : Bool) → ltb k (eventCount (m .settings .gpe0)) ≡ t → Gpe (generalRaised m k)
     go true e =
         let low = ltb-true k _ e in
-        let most = gpe-at-most (m .settings .gpe0) (p .0 .gpe0-length) (p .0 .gpe0-none) in
+        let (even, most) = length0 m p in
         let place = event-has-byte (m .settings .gpe0 .length) _ (m .«gpe0_sts») k most low (p .1) in
-        rw e (p .0, bytes-with-bit (m .settings .gpe0 .length) (m .«gpe0_sts») k (even0 m p) low (p .1), p .2, p .3, p .4, walk-gpe0 m k place (p .5))
+        let found = walk-with-bit (m .«gpe0_sts») (m .«gpe0_en») (k / 8) (2 ^ (k % 8)) place in
+        rw e
+        (p .0, bytes-with-bit (m .settings .gpe0 .length) (m .«gpe0_sts») k even low (p .1), p .2, p .3, p .4, rw (p .5, found) (sym (or-assoc (isEnabled (m .«gpe0_en») k) (walk0 m) (walk1 m))))
     go false e =
         let j = k - m .settings .«gpe1_base» in
         let inside : (leb (m .settings .«gpe1_base») k && ltb j (eventCount (m .settings .gpe1))) ≡ true = rw e at h in
         let low = ltb-true j _ (and-right (leb (m .settings .«gpe1_base») k) _ inside) in
-        let most = gpe-at-most (m .settings .gpe1) (p .0 .gpe1-length) (p .0 .gpe1-none) in
+        let (even, most) = length1 m p in
         let place = event-has-byte (m .settings .gpe1 .length) _ (m .«gpe1_sts») j most low (p .3) in
-        rw e (p .0, p .1, p .2, bytes-with-bit (m .settings .gpe1 .length) (m .«gpe1_sts») j (even1 m p) low (p .3), p .4, walk-gpe1 m j place (p .5))
+        let found = walk-with-bit (m .«gpe1_sts») (m .«gpe1_en») (j / 8) (2 ^ (j % 8)) place in
+        rw e
+        (p .0, p .1, p .2, bytes-with-bit (m .settings .gpe1 .length) (m .«gpe1_sts») j even low (p .3), p .4, rw (p .5, found) (or-swapped (isEnabled (m .«gpe1_en») j) (walk0 m) (walk1 m)))
 
 -- no bit is set
 no-walk : false ≡ (anyEnabled noBytes noBytes || anyEnabled noBytes noBytes)

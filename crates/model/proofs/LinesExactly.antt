@@ -20,7 +20,7 @@ use Rattle.bits.proofs.Algebra.{disjoint-digit}
 use Rattle.machine.specs.declared.Machine.{Machine}
 use Rattle.machine.specs.Status.{hasBit}
 use Rattle.registers.specs.Registers.{gpeSts, gpeEn}
-use Rattle.machine.specs.Fields.{withGpe}
+use Rattle.machine.specs.Fields.{withGpePending}
 use Rattle.machine.specs.Lines.{awake, anyEnabled, gpeEvent, walked, pm1Event, eventOutput, sciOf, smiOf}
 
 -- ---- what the lines look for
@@ -55,7 +55,7 @@ WalkStored m = m .«gpe_pending» ≡ gpeEvent m
 
 -- then looking for it again changes nothing
 pub stored-walked : (m : Machine) → WalkStored m → walked m ≡ m
-stored-walked m e = ap (withGpe m (m .«gpe0_sts») (m .«gpe0_en») (m .«gpe1_sts») (m .«gpe1_en»)) (sym e)
+stored-walked m e = ap (withGpePending m) (sym e)
 
 -- awake is S0
 pub awake-exactly : (m : Machine) → (awake m ≡ true) ↔ (m .state ≡ 0)

@@ -1,4 +1,4 @@
--- The layouts and runs of two lists joined, and a run with two steps exchanged. By recursion on the first list.
+-- The layouts and runs of two lists joined, what lists of steps keep, and a run with two steps exchanged. By recursion on the first list.
 -- Assumes nothing.
 use mathlib.Core.Path.{_≡_, refl, ap}
 use mathlib.Core.Bool.{Bool}
@@ -18,6 +18,12 @@ moved-append homeB [] k = refl
 moved-append homeB (one x ∷ l) k = ap (λ r. x ∷ r) (moved-append homeB l k)
 moved-append homeB (control h gap h′ ∷ l) k = simp (moved-append homeB l k, append-assoc)
 moved-append homeB (event h gap h′ ∷ l) k = simp (moved-append homeB l k, append-assoc)
+
+-- what each step keeps, a list of steps keeps
+pub kept-after : {S X : Type 0} (next : S → X → S) (P : S → Type 0) → ((s : S) (x : X) → P s → P (next s x)) → (s : S) (l : List X) → P s → P (after next s l)
+unfolding after
+kept-after next P keeps s [] p = p
+kept-after next P keeps s (x ∷ l) p = kept-after next P keeps (next s x) l (keeps s x p)
 
 -- x then y, or y then x: the same answers and the same end
 abbrev pub Commute : {S X A : Type 0} → (S → X → A) → (S → X → S) → S → X → X → Type 0

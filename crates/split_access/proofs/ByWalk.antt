@@ -1,8 +1,9 @@
 -- All answers and lines are those of the walk: what is stored is its answer, at the start and after every step, so that looking for it again changes
 -- nothing. Assumes nothing.
-use mathlib.Core.List.{List, [], _∷_}
+use mathlib.Core.List.{List}
 use mathlib.Core.Path.{_≡_, sym, ap}
 use Rattle.runs.specs.Items.{after as afterAll}
+use Rattle.runs.proofs.Runs.{kept-after}
 use Rattle.machine.specs.Lines.{walked, sciOf, smiOf}
 use Rattle.machine.specs.SetUp.{setUpOf}
 use Rattle.machine.specs.declared.Machine.{Machine}
@@ -14,13 +15,8 @@ use Rattle.split_access.specs.ByWalk.{ByWalkFrom, ByWalk}
 use Rattle.split_access.specs.Start.{AfterLegal}
 
 -- any steps keep it
-gpe-after : (m : Machine) (steps : List Step) → Gpe m → Gpe (afterAll after m steps)
-unfolding afterAll
-gpe-after m [] p = p
-gpe-after m (x ∷ steps) p = gpe-after (after m x) steps (gpe-bytes-kept m x p)
-
 pub walk-after : (m : Machine) (steps : List Step) → Gpe m → WalkStored (afterAll after m steps)
-walk-after m steps p = gpe-after m steps p .5
+walk-after m steps p = kept-after after Gpe gpe-bytes-kept m steps p .5
 
 by-walk-from : (m : Machine) → WalkStored m → ByWalkFrom stepOf m
 by-walk-from m stored =

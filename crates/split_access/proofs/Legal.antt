@@ -15,6 +15,7 @@ use Rattle.cells.specs.Cells.{cells}
 use Rattle.cells.specs.declared.Column.the-variants as column
 use Rattle.cells.proofs.Masks.{mask-small}
 use Rattle.runs.specs.Items.{Throughout, after as afterAll}
+use Rattle.runs.proofs.Runs.{kept-after}
 use Rattle.platform.specs.Blocks.{present}
 use Rattle.platform.specs.Fitted.{statusCells}
 use Rattle.platform.specs.declared.rules.SetUpAnswer.the-variants as set-up
@@ -38,9 +39,7 @@ use Rattle.split_access.proofs.WriteBack.{Wide, wide-all, writes-back-f
 
 -- "all that .. any steps then give are legal"
 pub legal-after : (m : Machine) (steps : List Step) → legal m ≡ true → legal (afterAll after m steps) ≡ true
-unfolding afterAll
-legal-after m [] e = e
-legal-after m (x ∷ steps) e = legal-after (after m x) steps (legal-kept m x e)
+legal-after m steps e = kept-after after (λ k. legal k ≡ true) legal-kept m steps e
 
 -- and every machine on the way
 pub all-legal : (m : Machine) (steps : List Step) → legal m ≡ true → Throughout after (λ k. legal k ≡ true) m steps

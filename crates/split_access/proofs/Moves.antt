@@ -8,6 +8,7 @@ use Rattle.lists.proofs.Tests.{or-left, or-right}
 use Rattle.runs.specs.Items.{Item, one, control, event, stepsOf, Every, Awake, Throughout, after as afterAll}
 use Rattle.runs.proofs.Fit.{Fit, Sortable, sortable-by, every-imp}
 use Rattle.runs.proofs.Moved.{moved-runs}
+use Rattle.runs.proofs.Runs.{kept-after}
 use Rattle.platform.specs.Blocks.{present}
 use Rattle.platform.specs.Legal.{Guaranteed}
 use Rattle.platform.specs.declared.settings.Settings.{Settings}
@@ -110,9 +111,7 @@ module _ (s : Settings) where
   throughout-ok m (x ∷ l) e t = (record { settings = e; state = t .0 }, throughout-ok (after m x) l (settings-kept m x ∙ e) (t .1))
 
   pub all-kept : (m : Machine) (l : List Step) → m .settings ≡ s → afterAll after m l .settings ≡ s
-  unfolding afterAll
-  all-kept m [] e = e
-  all-kept m (x ∷ l) e = all-kept (after m x) l (settings-kept m x ∙ e)
+  all-kept m l e = kept-after after (λ k. k .settings ≡ s) (λ k x h. settings-kept k x ∙ h) m l e
 
   awake-ok : (items : List (Item Step)) (m : Machine) → m .settings ≡ s → Awake after InS0 m items → Awake after (Ok s) m items
   unfolding Awake

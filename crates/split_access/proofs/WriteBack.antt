@@ -12,6 +12,7 @@ use lib.ListN.{length, getD}
 use Rattle.bits.specs.Digit.{digit}
 use Rattle.bits.proofs.Writes.{digit-kept}
 use Rattle.bits.proofs.Digits.{digit-and, digit-or, digit-le, digit-zero}
+use Rattle.runs.proofs.Runs.{kept-after}
 use Rattle.runs.specs.Items.{Every, Throughout, after as afterAll}
 use Rattle.platform.specs.Blocks.{present}
 use Rattle.platform.specs.Legal.{Guaranteed, HasGpeLength, HasNone}
@@ -65,9 +66,7 @@ wide-kept m x w =
     }
 
 pub wide-all : (m : Machine) (l : List Step) → Wide m → Wide (afterAll after m l)
-unfolding afterAll
-wide-all m [] w = w
-wide-all m (x ∷ l) w = wide-all (after m x) l (wide-kept m x w)
+wide-all m l w = kept-after after Wide wide-kept m l w
 
 -- ---- awake throughout two lists
 

@@ -9,7 +9,7 @@ use Rattle.runs.specs.Items.{Item, Every}
 use Rattle.platform.specs.Fitted.{statusCells}
 use Rattle.platform.specs.declared.settings.Settings.{Settings}
 use Rattle.registers.specs.Registers.{shown, placed, covered, inStatus}
-use Rattle.machine.specs.Fields.{withEvent, withGpe, enter}
+use Rattle.machine.specs.Fields.{withEvent, withGpePending, enter}
 use Rattle.machine.specs.declared.Machine.{Machine}
 use Rattle.model.specs.Bus.{writeOf}
 use Rattle.model.specs.Control.{completes, namedState, controlled}
@@ -93,11 +93,8 @@ abbrev pub ignoresPending : Stepping
 ignoresPending = writingBy (λ m a written. sentToSleep m (registerOf m a) (a .width) (offsetOf m a) written)
 
 -- request W7 left out: a write leaves what is stored of the general events as it was
-abbrev pub unlooked : Machine → Machine → Machine
-unlooked m n = withGpe n (n .«gpe0_sts») (n .«gpe0_en») (n .«gpe1_sts») (n .«gpe1_en») (m .«gpe_pending»)
-
 abbrev pub leavesPending : Stepping
-leavesPending = writingBy (λ m a written. unlooked m (after m (step.Write a written)))
+leavesPending = writingBy (λ m a written. withGpePending (after m (step.Write a written)) (m .«gpe_pending»))
 
 -- ---- the claims
 

@@ -28,6 +28,7 @@ use Rattle.platform.proofs.Legal.{legal-guaranteed}
 use Rattle.machine.specs.declared.Machine.{Machine}
 use Rattle.registers.specs.Registers.{controlIn}
 use Rattle.model.specs.Legal.{absentPair, statusLegal, enablesLegal, stateAllowed, counterLegal, holdLegal, commandByteLegal, slpTypsLegal, notTwo, settingsFit, legal}
+use Rattle.model.proofs.Bytes.{gpe-length}
 use Rattle.model.proofs.Legal.{Legal, legal-means, legal-walk, only-if, parts}
 use Rattle.values.specs.Values.{pairValue, pairOf, settingsValues, valuesOf, settingsFrom, machineFrom}
 use Rattle.values.proofs.Back.{flag-back, bit-0-back, waits-back, command-back, block-back, pm1-block-back, pair-bytes, pair-back, six-back, within-small, halves-back, sci-en-back, bm-rld-back, slp-typ-back, some-home, either-back}
@@ -71,11 +72,7 @@ length-small b n h has none = go (present b) refl
     go false p = rw (none p) (lit< tt)
 
 pub gpe-length-small : (b : Block) → HasGpeLength b → HasNone b → b .length < 2 ^ 8
-gpe-length-small b has none = go (present b) refl
-  where
-    go : (t : Bool) → present b ≡ t → b .length < 2 ^ 8
-    go true p = omega (arith, has p .2)
-    go false p = rw (none p) (lit< tt)
+gpe-length-small b has none = omega (arith, gpe-length b has none .1)
 
 -- A is present, so its length is the one that serves A and B
 shared-length : (a b : Block) (n : ℕ) → n < 2 ^ 8 → present a ≡ true → HasLength n a → HasLength n b → HasNone b
