@@ -1,31 +1,33 @@
 -- What the tests on the way to a cell say of the offset and of what is written. Assumes nothing.
-use mathlib.Core.Bool.{Bool, true, false, cond, and-false, or-false}
-use mathlib.Core.Path.{_≡_, refl, sym, _∙_, ap, ap₂}
-use Prim.Native.Nat.{ℕ, _+_, _-_, _%_, _^_, _≤_, _<_}
+use mathlib.Core.Bool.{Bool, true, false, cond, _&&_, and-false, or-false, false≢true}
+use mathlib.Core.Path.{_≡_, refl, sym, _∙_, ap}
+use Prim.Native.Nat.{ℕ, _+_, _-_, _/_, _%_, _^_, _≤_, _<_}
 use native.Mathlib.Nat.{zero-div}
 use native.Mathlib.Omega.{arith}
-use borrow.Author.Tests.{eqb-true, ne-eqb, ltb-true, le-ltb, not-false}
+use borrow.Author.Tests.{ne-eqb, ltb-true, le-ltb, not-false}
 use lib.Dec.{eqb}
-use Rattle.lists.specs.Any.{any}
-use Rattle.lists.proofs.Tests.{or-left}
+use Rattle.acpi.specs.Bits.{«ARB_DIS»}
 use Rattle.platform.specs.declared.settings.Settings.{Settings}
 use Rattle.bits.specs.Writes.{byteAt}
-use Rattle.registers.specs.Registers.{laneAt, oneByte, shown, inStatus, inEnable, statusAfter, enableAfter, coversLow, coversHigh, gpeHalf, inGpeStatus, gpeStsCleared, gpeEnTaken, gpeStsAfter, gpeEnAfter}
+use Rattle.registers.specs.Registers.{laneAt, oneByte, shown, inStatus, inEnable, statusAfter, enableAfter, coversLow, coversHigh, gpeHalf, inGpeStatus}
 use Rattle.machine.specs.declared.Machine.{Machine}
-use Rattle.machine.specs.Fields.{withGpe}
-use Rattle.machine.specs.Lines.{walked}
+use Rattle.machine.specs.declared.sleeping.NextState.the-variants as next
+use Rattle.machine.specs.Fields.{withCommand, withArbDis}
+use Rattle.machine.specs.Lines.{awake}
+use Rattle.machine.specs.Scalars.{scalarsOf}
 use Rattle.model.specs.Answer.{firstApplying}
-use Rattle.model.specs.Bus.{dataTooWide, gpeWritten, readOf, writeOf}
-use Rattle.model.specs.Control.{controlWritten, setsSlpEn, typAfter, completes, armedAfter, namesNone, bmRldAfter, gblRlsAfter}
-use Rattle.model.specs.Step.{registerOf, offsetOf, writeRefusals, answerTo, accepted, stepOf}
+use Rattle.model.specs.Bus.{wrongWidth, dataTooWide, leadsNowhere, allowed, isTimer, commandLost, readOf}
+use Rattle.model.specs.Control.{setsSlpEn, typAfter, completes, armedAfter, namedState, namesNone, bmRldAfter, gblRlsAfter, controlled}
+use Rattle.model.specs.Effect.{unmoved, done, unlessRefused, eventWrite, completing, controlWrite, stsByte, enByte, gpeWrite, writeEffect, registerWrite, effectOf}
+use Rattle.model.specs.Ports.{walk, registerAt, offsetAt}
+use Rattle.model.specs.Step.{writeRefusals, answerTo}
 use Rattle.model.specs.declared.Access.{Access}
-use Rattle.model.specs.declared.Answer.{Answer}
 use Rattle.model.specs.declared.Answer.the-variants as answer
+use Rattle.model.specs.declared.Effect.{Effect}
+use Rattle.model.specs.declared.Place.{Place}
 use Rattle.model.specs.declared.Register.{Register}
 use Rattle.model.specs.declared.Register.the-variants as register
 use Rattle.model.specs.declared.Step.the-variants as step
-use Rattle.model.specs.declared.Stepped.{Stepped}
-use Rattle.model.proofs.Steps.{zero-exactly, accepted-does, refused-stays}
 use Rattle.bus.specs.GpeBytes.{gpeNumber}
 use Rattle.bus.specs.declared.cell_rules.Bytes.{Bytes}
 
@@ -57,74 +59,111 @@ fits-word width written e = go (eqb width 1) (eqb width 2) (ltb-true _ _ (not-fa
     go false true h = omega arith
     go false false h = omega arith
 
--- where data fits its width, the test of its low 32 bits is the test of it
-pub names-none-low : (m : Machine) (r : Register) (width offset written low : ℕ) (t : Bool) → low ≡ written % 2 ^ 32 → dataTooWide width written ≡ false
-    → namesNone m r width offset low ≡ t → namesNone m r width offset written ≡ t
-names-none-low m r width offset written low t l d e = rw (l ∙ fits-word width written d) at e
+-- an access of a width or place that is not allowed leads somewhere
+pub refused-leads : (r : Register) (width offset : ℕ) → allowed r width offset ≡ false → leadsNowhere r ≡ false
+unfolding allowed leadsNowhere
+refused-leads register.SmiCmd width offset e = refl
+refused-leads (register.Pm1Evt b) width offset e = refl
+refused-leads (register.Pm1Cnt b) width offset e = refl
+refused-leads register.Pm2Cnt width offset e = refl
+refused-leads register.PmTmr width offset e = refl
+refused-leads (register.Gpe b) width offset e = refl
+refused-leads register.Nowhere width offset e = absurd (false≢true (sym e))
 
--- an accepted write has no more than 32 bits
-accepted-fits : (m : Machine) (a : Access) (written : ℕ) → accepted (answerTo m (step.Write a written)) ≡ true → written % 2 ^ 32 ≡ written
-unfolding any
-accepted-fits m a written e =
-    fits-word (a .width) written (or-left _ _ (zero-exactly m (step.Write a written) .0 (eqb-true _ _ e) 22))
+-- ---- what a write comes to, by its register
 
--- a write to a status byte, and to an enable byte, of a GPE block
-module _ (m : Machine) (b : Bool) (offset written : ℕ) where
-  pub status-byte-written : inGpeStatus (m .settings) b offset ≡ true
-      → gpeWritten m b offset written
-      ≡ walked (withGpe m (cond b (m .«gpe0_sts») (gpeStsCleared m b offset written)) (m .«gpe0_en») (cond b (gpeStsCleared m b offset written) (m .«gpe1_sts»)) (m .«gpe1_en») (m .«gpe_pending»))
-  unfolding gpeStsAfter gpeEnAfter
-  status-byte-written = go b
-    where
-      go : (b : Bool) → inGpeStatus (m .settings) b offset ≡ true
-          → gpeWritten m b offset written
-          ≡ walked (withGpe m (cond b (m .«gpe0_sts») (gpeStsCleared m b offset written)) (m .«gpe0_en») (cond b (gpeStsCleared m b offset written) (m .«gpe1_sts»)) (m .«gpe1_en») (m .«gpe_pending»))
-      go true e = rw e refl
-      go false e = rw e refl
+module _ (m : Machine) (width offset written : ℕ) (x : Effect) where
+  abbrev Ends : Register → Type 0
+  Ends r = x ≡ registerWrite m r width offset written
 
-  pub enable-byte-written : inGpeStatus (m .settings) b offset ≡ false
-      → gpeWritten m b offset written
-      ≡ walked (withGpe m (m .«gpe0_sts») (cond b (m .«gpe0_en») (gpeEnTaken m b offset written)) (m .«gpe1_sts») (cond b (gpeEnTaken m b offset written) (m .«gpe1_en»)) (m .«gpe_pending»))
-  unfolding gpeStsAfter gpeEnAfter
-  enable-byte-written = go b
-    where
-      go : (b : Bool) → inGpeStatus (m .settings) b offset ≡ false
-          → gpeWritten m b offset written
-          ≡ walked (withGpe m (m .«gpe0_sts») (cond b (m .«gpe0_en») (gpeEnTaken m b offset written)) (m .«gpe1_sts») (cond b (gpeEnTaken m b offset written) (m .«gpe1_en»)) (m .«gpe_pending»))
-      go true e = rw e refl
-      go false e = rw e refl
+  pub at-register : (r y : Register) → r ≡ y → allowed r width offset ≡ true → (allowed y width offset ≡ true → Ends y) → Ends r
+  at-register r y e a f = rw e (f (rw e at a))
 
--- an accepted write does what its rule says of the low 32 bits, which are all of what is written
-abbrev stepped : Answer → Machine → Stepped
-stepped given next = record { answer = given; machine = next }
+  pub smi-refuses : m .«command_waits» ≡ true → x ≡ unmoved m answer.CommandWaits → allowed register.SmiCmd width offset ≡ true → Ends register.SmiCmd
+  unfolding registerWrite firstApplying leadsNowhere isTimer commandLost namesNone
+  smi-refuses w q a =
+      q ∙ rw a (ap (λ t. unlessRefused m (cond t answer.CommandWaits (answer.Done 0)) (writeEffect m register.SmiCmd width offset written)) (sym w))
 
-module _ (m : Machine) (a : Access) (written : ℕ) (r : Register) (offset : ℕ) (given : Answer) where
-  answered : r ≡ registerOf m a → offset ≡ offsetOf m a → given ≡ firstApplying (writeRefusals m r (a .width) offset written) (answer.Done 0)
-      → given ≡ answerTo m (step.Write a written)
-  unfolding answerTo
-  answered p q e = e ∙ ap₂ (λ x o. firstApplying (writeRefusals m x (a .width) o written) (answer.Done 0)) p q
+  pub smi-takes : m .«command_waits» ≡ false → x ≡ done 0 (scalarsOf (withCommand m true (written % 2 ^ 8))) next.Same
+      → allowed register.SmiCmd width offset ≡ true → Ends register.SmiCmd
+  unfolding registerWrite firstApplying leadsNowhere isTimer commandLost namesNone writeEffect
+  smi-takes w q a = rw (a, w) q
 
-  pub write-accepted : (low : ℕ) (next : Machine) → r ≡ registerOf m a → offset ≡ offsetOf m a
-      → given ≡ firstApplying (writeRefusals m r (a .width) offset written) (answer.Done 0)
-      → accepted given ≡ true → low ≡ written % 2 ^ 32 → next ≡ writeOf m r (a .width) offset low
-      → stepped given next ≡ stepOf m (step.Write a written)
-  write-accepted low next p q e t l n =
-      let same = answered p q e in
-      let taken : accepted (answerTo m (step.Write a written)) ≡ true = ap accepted (sym same) ∙ t in
-      let whole : low ≡ written = l ∙ accepted-fits m a written taken in
-      ap₂ stepped same
-      (n
-      ∙ ap (λ x. writeOf m r (a .width) offset x) whole
-      ∙ ap₂ (λ x o. writeOf m x (a .width) o written) p q
-      ∙ sym (accepted-does m (step.Write a written) taken))
+  pub pm2-takes : x ≡ done 0 (scalarsOf (withArbDis m (eqb (written / 2 ^ «ARB_DIS» % 2) 1))) next.Same → allowed register.Pm2Cnt width offset ≡ true
+      → Ends register.Pm2Cnt
+  unfolding registerWrite firstApplying leadsNowhere isTimer commandLost namesNone writeEffect
+  pm2-takes q a = rw a q
 
-  pub write-refused : r ≡ registerOf m a → offset ≡ offsetOf m a
-      → given ≡ firstApplying (writeRefusals m r (a .width) offset written) (answer.Done 0)
-      → accepted given ≡ false
-      → stepped given m ≡ stepOf m (step.Write a written)
-  write-refused p q e t =
-      let same = answered p q e in
-      ap₂ stepped same (sym (refused-stays m (step.Write a written) (ap accepted (sym same) ∙ t)))
+  pub timer-refuses : x ≡ unmoved m answer.TimerWritten → allowed register.PmTmr width offset ≡ true → Ends register.PmTmr
+  unfolding registerWrite firstApplying leadsNowhere isTimer
+  timer-refuses q a = rw a q
+
+  pub nowhere-refuses : x ≡ unmoved m answer.NoBlock → allowed register.Nowhere width offset ≡ true → Ends register.Nowhere
+  unfolding registerWrite firstApplying leadsNowhere
+  nowhere-refuses q a = q
+
+  module _ (b : Bool) where
+    pub event-takes : x ≡ done 0 (eventWrite m b width offset written) next.Same → allowed (register.Pm1Evt b) width offset ≡ true → Ends (register.Pm1Evt b)
+    unfolding registerWrite firstApplying leadsNowhere isTimer commandLost namesNone writeEffect
+    event-takes q a = rw a q
+
+    pub status-takes : inGpeStatus (m .settings) b offset ≡ true → x ≡ gpeWrite m (stsByte m b offset written)
+        → allowed (register.Gpe b) width offset ≡ true → Ends (register.Gpe b)
+    unfolding registerWrite firstApplying leadsNowhere isTimer commandLost namesNone writeEffect
+    status-takes t q a = rw (a, t) q
+
+    pub enable-takes : inGpeStatus (m .settings) b offset ≡ false → x ≡ gpeWrite m (enByte (m .settings) b offset written)
+        → allowed (register.Gpe b) width offset ≡ true → Ends (register.Gpe b)
+    unfolding registerWrite firstApplying leadsNowhere isTimer commandLost namesNone writeEffect
+    enable-takes t q a = rw (a, t) q
+
+    pub control-takes : x ≡ controlWrite m b width offset written → allowed (register.Pm1Cnt b) width offset ≡ true → Ends (register.Pm1Cnt b)
+    unfolding registerWrite firstApplying leadsNowhere isTimer commandLost namesNone writeEffect controlWrite
+    control-takes q a = q ∙ go (completes m b width offset written && eqb (namedState m b width offset written) 0) refl a
+      where
+        go : (t : Bool) → (completes m b width offset written && eqb (namedState m b width offset written) 0) ≡ t → allowed (register.Pm1Cnt b) width offset ≡ true
+            → cond t (unmoved m answer.NoSleepState) (done 0 (scalarsOf (controlled m b width offset written)) (completing m b width offset written))
+            ≡ registerWrite m (register.Pm1Cnt b) width offset written
+        go true e a = rw (a, e) refl
+        go false e a = rw (a, e) refl
+
+-- ---- the lines before the register's
+
+-- a write with what its port leads to
+abbrev writing : Machine → Register → ℕ → ℕ → ℕ → Effect
+writing m r width offset written = unlessRefused m (firstApplying (writeRefusals m r width offset written) (answer.Done 0)) (writeEffect m r width offset written)
+
+-- a write is refused by its first lines, or comes to what its register says
+module _ (m : Machine) (a : Access) (written : ℕ) (place : Place) (leads : place ≡ walk (m .settings) (a .port)) (x : Effect) where
+  write-at : x ≡ writing m (place .register) (a .width) (place .offset) written → x ≡ effectOf m (step.Write a written)
+  unfolding effectOf answerTo registerAt offsetAt
+  write-at q = q ∙ ap (λ (p : Place). writing m (p .register) (a .width) (p .offset) written) leads
+
+  pub write-asleep : awake m ≡ false → x ≡ unmoved m answer.Asleep → x ≡ effectOf m (step.Write a written)
+  unfolding firstApplying
+  write-asleep w q = write-at (rw w q)
+
+  module _ (w : awake m ≡ true) where
+    pub write-wrong-width : wrongWidth (a .width) ≡ true → x ≡ unmoved m answer.WrongWidth → x ≡ effectOf m (step.Write a written)
+    unfolding firstApplying
+    write-wrong-width e q = write-at (rw (w, e) q)
+
+    module _ (right : wrongWidth (a .width) ≡ false) where
+      pub write-too-wide : dataTooWide (a .width) written ≡ true → x ≡ unmoved m answer.DataTooWide → x ≡ effectOf m (step.Write a written)
+      unfolding firstApplying
+      write-too-wide e q = write-at (rw (w, right, e) q)
+
+      module _ (fit : dataTooWide (a .width) written ≡ false) where
+        pub write-not-allowed : allowed (place .register) (a .width) (place .offset) ≡ false → x ≡ unmoved m answer.NotAllowed
+            → x ≡ effectOf m (step.Write a written)
+        unfolding firstApplying
+        write-not-allowed e q = write-at (rw (w, right, fit, refused-leads (place .register) (a .width) (place .offset) e, e) q)
+
+        pub write-reaches : (low : ℕ) → low ≡ written % 2 ^ 32 → x ≡ registerWrite m (place .register) (a .width) (place .offset) low
+            → x ≡ effectOf m (step.Write a written)
+        unfolding firstApplying registerWrite
+        write-reaches low l q =
+            write-at (rw (w, right, fit) (rw (l ∙ fits-word (a .width) written fit) at q))
 
 -- ---- past the bytes of a PM1 register
 
@@ -155,35 +194,32 @@ module _ (m : Machine) (r : Register) (b : Bool) (width offset : ℕ) where
   control-read-past e h = rw (e, le-ltb offset 2 h) (sym (shown-nothing width offset))
 
   module _ (written : ℕ) where
-    pub event-write-past : r ≡ register.Pm1Evt b → 4 ≤ offset → m ≡ writeOf m r width offset written
-    unfolding writeOf statusAfter enableAfter inStatus inEnable
-    event-write-past e h =
+    pub event-write-past : 4 ≤ offset → scalarsOf m ≡ eventWrite m b width offset written
+    unfolding statusAfter enableAfter inStatus inEnable
+    event-write-past h =
         let past : 2 ≤ offset = omega arith in
-        rw (e, le-ltb offset 2 past, le-ltb offset 4 h, and-false) refl
+        rw (le-ltb offset 2 past, le-ltb offset 4 h, and-false) refl
 
-    pub control-write-past : r ≡ register.Pm1Cnt b → 2 ≤ offset → m ≡ writeOf m r width offset written
-    unfolding writeOf completes setsSlpEn typAfter armedAfter bmRldAfter gblRlsAfter coversLow coversHigh
-    control-write-past e h =
+    control-write-past : 2 ≤ offset → done 0 (scalarsOf m) next.Same ≡ controlWrite m b width offset written
+    unfolding controlWrite completing completes setsSlpEn typAfter armedAfter bmRldAfter gblRlsAfter coversLow coversHigh
+    control-write-past h =
         let low : eqb offset 0 ≡ false = ne-eqb offset 0 (λ e. omega arith) in
         let high : eqb offset 1 ≡ false = ne-eqb offset 1 (λ e. omega arith) in
-        simp (e, low, high, and-false, or-false)
+        simp (low, high, and-false, or-false)
 
 -- ---- the bytes of a control register that a write covers
 
-module _ (m : Machine) (r : Register) (b : Bool) (width offset written : ℕ) (next : Machine) (bytes : Bytes)
-    (e : r ≡ register.Pm1Cnt b) (n : next ≡ controlWritten m b (bytes .width) (bytes .offset) written) where
-  pub control-first : offset ≡ 0 → bytes ≡ record { width = width; offset = 0 } → next ≡ writeOf m r width offset written
-  unfolding writeOf
-  control-first o s = n ∙ simp (s, e, o)
+module _ (m : Machine) (b : Bool) (width offset written : ℕ) (x : Effect) (bytes : Bytes) (n : x ≡ controlWrite m b (bytes .width) (bytes .offset) written) where
+  pub control-first : offset ≡ 0 → bytes ≡ record { width = width; offset = 0 } → x ≡ controlWrite m b width offset written
+  control-first o s = n ∙ rw (s, o) refl
 
-  pub control-second : offset ≡ 1 → bytes ≡ record { width = 1; offset = 1 } → next ≡ writeOf m r width offset written
-  unfolding writeOf completes setsSlpEn typAfter armedAfter coversHigh
-  control-second o s = n ∙ simp (s, e, o)
+  pub control-second : offset ≡ 1 → bytes ≡ record { width = 1; offset = 1 } → x ≡ controlWrite m b width offset written
+  unfolding controlWrite completing completes setsSlpEn typAfter armedAfter coversHigh
+  control-second o s = n ∙ simp (s, o)
 
-  pub control-none : 2 ≤ offset → bytes ≡ record { width = 1; offset = 2 } → next ≡ writeOf m r width offset written
-  unfolding writeOf
+  pub control-none : 2 ≤ offset → bytes ≡ record { width = 1; offset = 2 } → x ≡ controlWrite m b width offset written
   control-none h s =
       n
-      ∙ ap (λ (x : Bytes). controlWritten m b (x .width) (x .offset) written) s
-      ∙ sym (control-write-past m (register.Pm1Cnt b) b 1 2 written refl (omega arith))
-      ∙ control-write-past m r b width offset written e h
+      ∙ ap (λ (y : Bytes). controlWrite m b (y .width) (y .offset) written) s
+      ∙ sym (control-write-past m register.Nowhere b 1 2 written (omega arith))
+      ∙ control-write-past m register.Nowhere b width offset written h

@@ -2,17 +2,24 @@
 use acpi::ARB_DIS;
 use bits::pick32;
 use bits::pick64;
-use machine::GPE_BYTES;
+use machine::GpeArray;
+use machine::GpeStore;
 use machine::Machine;
+use machine::NextState;
+use machine::Scalars;
+use model::Answer;
+use model::Effect;
 use model::Register;
 use platform::Settings;
 use registers::read_high;
 use registers::read_low;
 ghost use mathlib.Core.Path.{_≡_};
-ghost use mathlib.Core.Bool.{cond, true};
+ghost use mathlib.Core.Bool.{true};
 ghost use Rattle.bus.specs.GpeBytes.{gpeNumber};
-ghost use Rattle.machine.specs.Fields.{withEvent, withGpe, withCommand, withArbDis};
-ghost use Rattle.model.specs.Bus.{timerRegister, readOf, writeOf};
+ghost use Rattle.machine.specs.Fields.{withEvent, withCommand, withArbDis};
+ghost use Rattle.machine.specs.Scalars.{scalarsOf};
+ghost use Rattle.model.specs.Bus.{allowed, timerRegister, readOf};
+ghost use Rattle.model.specs.Effect.{stsArray, enArray, stsByte, enByte, gpeWrite, eventWrite, registerWrite};
 
 // A GPE block's bytes as cells, since a length is a byte: status bytes from 0 on, enable bytes from 256 on.
 fn gpe_number(s: Settings, b: bool, offset: u64) -> u64
@@ -72,54 +79,108 @@ pub(crate) fn read_cells(m: Machine, r: Register, width: u32, offset: u64) -> u3
     }
 }
 
-fn with_event(mut m: Machine, sts: u16, en: u16) -> Machine
-    ensures { λ r. ⌜ r ≡ withEvent m sts en ⌝ }
+fn with_event(m: Machine, sts: u16, en: u16) -> Scalars
+    ensures { λ r. ⌜ r ≡ scalarsOf (withEvent m sts en) ⌝ }
 {
-    m.pm1_sts = sts;
-    m.pm1_en = en;
-    m
+    let mut x = m.scalars();
+    x.pm1_sts = sts;
+    x.pm1_en = en;
+    x
 }
 
 // A command write latches the byte.
-fn latch(mut m: Machine, command: u8) -> Machine
-    ensures { λ r. ⌜ r ≡ withCommand m true command ⌝ }
+fn latch(m: Machine, command: u8) -> Scalars
+    ensures { λ r. ⌜ r ≡ scalarsOf (withCommand m true command) ⌝ }
 {
-    m.command_waits = true;
-    m.command = command;
-    m
+    let mut x = m.scalars();
+    x.command_waits = true;
+    x.command = command;
+    x
 }
 
 // PM2 with ARB_DIS set.
 const ARB_DIS_SET: u32 = 1 << ARB_DIS;
 
-fn with_arb_dis(mut m: Machine, arb_dis: bool) -> Machine
-    ensures { λ r. ⌜ r ≡ withArbDis m «arb_dis» ⌝ }
+fn with_arb_dis(m: Machine, arb_dis: bool) -> Scalars
+    ensures { λ r. ⌜ r ≡ scalarsOf (withArbDis m «arb_dis») ⌝ }
 {
-    m.arb_dis = arb_dis;
-    m
+    let mut x = m.scalars();
+    x.arb_dis = arb_dis;
+    x
 }
 
-fn with_gpe_sts(mut m: Machine, b: bool, sts: [u8; GPE_BYTES]) -> Machine
-    ensures { λ r. ⌜ r ≡ withGpe m (cond b (m .«gpe0_sts») sts) (m .«gpe0_en») (cond b sts (m .«gpe1_sts»)) (m .«gpe1_en») (m .«gpe_pending») ⌝ }
+// The block's status array, and its enable array.
+fn sts_array(b: bool) -> GpeArray
+    ensures { λ r. ⌜ r ≡ stsArray b ⌝ }
 {
-    if b {
-        m.gpe1_sts = sts;
-        m
-    } else {
-        m.gpe0_sts = sts;
-        m
+    if b { GpeArray::Gpe1Sts } else { GpeArray::Gpe0Sts }
+}
+
+fn en_array(b: bool) -> GpeArray
+    ensures { λ r. ⌜ r ≡ enArray b ⌝ }
+{
+    if b { GpeArray::Gpe1En } else { GpeArray::Gpe0En }
+}
+
+fn sts_byte(m: Machine, b: bool, offset: u64, written: u32) -> GpeStore
+    ensures { λ r. ⌜ r ≡ stsByte m b offset written ⌝ }
+{
+    let array = sts_array(b);
+    GpeStore {
+        place: offset,
+        byte: registers::gpe_sts_cleared(m, b, offset, written),
+        walks: true,
+        array,
     }
 }
 
-fn with_gpe_en(mut m: Machine, b: bool, en: [u8; GPE_BYTES]) -> Machine
-    ensures { λ r. ⌜ r ≡ withGpe m (m .«gpe0_sts») (cond b (m .«gpe0_en») en) (m .«gpe1_sts») (cond b en (m .«gpe1_en»)) (m .«gpe_pending») ⌝ }
+fn en_byte(s: Settings, b: bool, offset: u64, written: u32) -> GpeStore
+    ensures { λ r. ⌜ r ≡ enByte s b offset written ⌝ }
 {
-    if b {
-        m.gpe1_en = en;
-        m
-    } else {
-        m.gpe0_en = en;
-        m
+    let array = en_array(b);
+    GpeStore {
+        place: registers::past_status(s, b, offset),
+        byte: registers::low_byte(written),
+        walks: true,
+        array,
+    }
+}
+
+fn stores(m: Machine, store: GpeStore) -> Effect
+    ensures { λ r. ⌜ r ≡ gpeWrite m store ⌝ }
+{
+    Effect {
+        answer: Answer::Done(0),
+        scalars: m.scalars(),
+        store,
+        next: NextState::Same,
+    }
+}
+
+fn event_written(m: Machine, b: bool, width: u32, offset: u64, written: u32) -> Scalars
+    ensures { λ r. ⌜ r ≡ eventWrite m b width offset written ⌝ }
+{
+    let s = m.settings;
+    let sts = m.pm1_sts;
+    let en = m.pm1_en;
+    match offset {
+        0 => {
+            let clearable = registers::clearable(m, b);
+            with_event(m, registers::status_low(sts, clearable, width, written), en)
+        }
+        1 => {
+            let clearable = registers::clearable(m, b);
+            with_event(m, registers::status_high(sts, clearable, written), en)
+        }
+        2 => {
+            let enables = registers::enable_in(s, b);
+            with_event(m, sts, registers::enable_low(en, enables, width, written))
+        }
+        3 => {
+            let enables = registers::enable_in(s, b);
+            with_event(m, sts, registers::enable_high(en, enables, written))
+        }
+        _ => m.scalars(),
     }
 }
 
@@ -129,25 +190,20 @@ struct Bytes {
     offset: u64,
 }
 
-pub(crate) fn write_cells(m: Machine, r: Register, width: u32, offset: u64, written: u32) -> Machine
-    ensures { λ result. ⌜ result ≡ writeOf m r width offset written ⌝ }
+// A write of an allowed width and place: 23, 25 to 27, or what the register's rule says.
+pub(crate) fn write_cells(m: Machine, r: Register, width: u32, offset: u64, written: u32) -> Effect
+    requires { ⌜ allowed r width offset ≡ true ⌝ }
+    ensures { λ result. ⌜ result ≡ registerWrite m r width offset written ⌝ }
 {
     let s = m.settings;
     match r {
-        Register::SmiCmd => latch(m, registers::low_byte(written)),
-        Register::Pm1Evt(b) => {
-            let sts = m.pm1_sts;
-            let en = m.pm1_en;
-            let clearable = registers::clearable(m, b);
-            let enables = registers::enable_in(s, b);
-            match offset {
-                0 => with_event(m, registers::status_low(sts, clearable, width, written), en),
-                1 => with_event(m, registers::status_high(sts, clearable, written), en),
-                2 => with_event(m, sts, registers::enable_low(en, enables, width, written)),
-                3 => with_event(m, sts, registers::enable_high(en, enables, written)),
-                _ => m,
+        Register::SmiCmd => {
+            if m.command_waits {
+                return model::unmoved(m, Answer::CommandWaits);
             }
+            model::done(0, latch(m, registers::low_byte(written)), NextState::Same)
         }
+        Register::Pm1Evt(b) => model::done(0, event_written(m, b, width, offset, written), NextState::Same),
         Register::Pm1Cnt(b) => {
             let bytes = match offset {
                 0 => Bytes { width, offset: 0 },
@@ -162,21 +218,19 @@ pub(crate) fn write_cells(m: Machine, r: Register, width: u32, offset: u64, writ
             };
             control::write(m, b, bytes.width, bytes.offset, written)
         }
-        Register::Pm2Cnt => with_arb_dis(m, written / ARB_DIS_SET % 2 == 1),
-        Register::PmTmr => m,
+        Register::Pm2Cnt => model::done(
+            0,
+            with_arb_dis(m, written / ARB_DIS_SET % 2 == 1),
+            NextState::Same,
+        ),
+        Register::PmTmr => model::unmoved(m, Answer::TimerWritten),
         Register::Gpe(b) => {
             let number = gpe_number(s, b, offset);
             match number {
-                0..=255 => {
-                    let sts = registers::gpe_sts_cleared(m, b, offset, written);
-                    with_gpe_sts(m, b, sts).walk_gpe()
-                }
-                _ => {
-                    let en = registers::gpe_en_taken(m, b, offset, written);
-                    with_gpe_en(m, b, en).walk_gpe()
-                }
+                0..=255 => stores(m, sts_byte(m, b, offset, written)),
+                _ => stores(m, en_byte(s, b, offset, written)),
             }
         }
-        Register::Nowhere => m,
+        Register::Nowhere => model::unmoved(m, Answer::NoBlock),
     }
 }

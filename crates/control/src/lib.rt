@@ -6,7 +6,12 @@ use acpi::SLP_TYPx;
 use bits::pick_bool;
 use bits::pick8;
 use machine::Machine;
-use model::Register;
+use machine::NextState;
+use machine::Scalars;
+use machine::StateChange;
+use model::Answer;
+use model::Effect;
+use platform::Settings;
 use registers::control_in;
 use registers::covers_high;
 use registers::covers_low;
@@ -14,7 +19,11 @@ use registers::has_pm1b_cnt;
 use registers::placed;
 use registers::written_bit;
 ghost use mathlib.Core.Path.{_≡_};
-ghost use Rattle.model.specs.Control.{setsSlpEn, writtenTyp, typAfter, completes, armedAfter, namedState, namesNone, bmRldAfter, gblRlsAfter, controlled, controlWritten};
+ghost use Rattle.sleep.specs.Pairs.{stateOf};
+ghost use Rattle.machine.specs.Scalars.{scalarsOf};
+ghost use Rattle.registers.specs.Registers.{hasPm1bCnt};
+ghost use Rattle.model.specs.Control.{setsSlpEn, writtenTyp, typAfter, completes, armedAfter, bmRldAfter, gblRlsAfter, controlled};
+ghost use Rattle.model.specs.Effect.{controlWrite};
 
 fn sets_slp_en(width: u32, offset: u64, written: u32) -> bool
     ensures { λ r. ⌜ r ≡ setsSlpEn width offset written ⌝ }
@@ -60,36 +69,13 @@ fn armed_after(m: Machine, b: bool, width: u32, offset: u64, written: u32) -> bo
     pick_bool(covers_high(width, offset), arms, m.armed)
 }
 
-// The state that the pair names with what this write latches, or 0.
-fn named_state(m: Machine, b: bool, width: u32, offset: u64, written: u32) -> u8
-    ensures { λ r. ⌜ r ≡ namedState m b width offset written ⌝ }
+// The state that the pair names, or 0.
+fn named_state(s: Settings, typ_a: u8, typ_b: u8) -> u8
+    ensures { λ r. ⌜ r ≡ stateOf (hasPm1bCnt s) «typ_a» «typ_b» (s .sleep .pairs) ⌝ }
 {
-    let s = m.settings;
     let table = s.sleep;
     let pairs = table.pairs();
-    let typ_a = typ_after(m, b, false, width, offset, written);
-    let typ_b = typ_after(m, b, true, width, offset, written);
     sleep::state_of(pairs, has_pm1b_cnt(s), typ_a, typ_b)
-}
-
-// 27: a write that completes a sleep names none of S1 to S5.
-pub fn names_none(m: Machine, r: Register, width: u32, offset: u64, written: u32) -> bool
-    ensures { λ result. ⌜ result ≡ namesNone m r width offset written ⌝ }
-{
-    match r {
-        Register::SmiCmd => false,
-        Register::Pm1Evt(_) => false,
-        Register::Pm1Cnt(b) => {
-            if completes(m, b, width, offset, written) {
-                return named_state(m, b, width, offset, written) == 0;
-            }
-            false
-        }
-        Register::Pm2Cnt => false,
-        Register::PmTmr => false,
-        Register::Gpe(_) => false,
-        Register::Nowhere => false,
-    }
 }
 
 fn bm_rld_after(m: Machine, b: bool, offset: u64, written: u32) -> bool
@@ -109,30 +95,36 @@ fn gbl_rls_after(m: Machine, b: bool, offset: u64, written: u32) -> bool
 }
 
 // The cells after a control write, before any sleep.
-fn controlled(mut m: Machine, b: bool, width: u32, offset: u64, written: u32) -> Machine
-    ensures { λ r. ⌜ r ≡ controlled m b width offset written ⌝ }
+fn controlled(m: Machine, b: bool, width: u32, offset: u64, written: u32) -> Scalars
+    ensures { λ r. ⌜ r ≡ scalarsOf (controlled m b width offset written) ⌝ }
 {
     let bm_rld = bm_rld_after(m, b, offset, written);
     let gbl_rls = gbl_rls_after(m, b, offset, written);
     let slp_typ_a = typ_after(m, b, false, width, offset, written);
     let slp_typ_b = typ_after(m, b, true, width, offset, written);
     let armed = armed_after(m, b, width, offset, written);
-    m.bm_rld = bm_rld;
-    m.gbl_rls = gbl_rls;
-    m.slp_typ_a = slp_typ_a;
-    m.slp_typ_b = slp_typ_b;
-    m.armed = armed;
-    m
+    let mut x = m.scalars();
+    x.bm_rld = bm_rld;
+    x.gbl_rls = gbl_rls;
+    x.slp_typ_a = slp_typ_a;
+    x.slp_typ_b = slp_typ_b;
+    x.armed = armed;
+    x
 }
 
-// What a write does, with the sleep that it completes.
-pub fn write(m: Machine, b: bool, width: u32, offset: u64, written: u32) -> Machine
-    ensures { λ r. ⌜ r ≡ controlWritten m b width offset written ⌝ }
+// 27, where a write that completes a sleep names none of S1 to S5; else what the write does, with the sleep that it completes.
+pub fn write(m: Machine, b: bool, width: u32, offset: u64, written: u32) -> Effect
+    ensures { λ r. ⌜ r ≡ controlWrite m b width offset written ⌝ }
 {
-    let next = controlled(m, b, width, offset, written);
+    let s = m.settings;
+    let x = controlled(m, b, width, offset, written);
     if completes(m, b, width, offset, written) {
-        next.complete(named_state(m, b, width, offset, written))
+        let state = named_state(s, x.slp_typ_a, x.slp_typ_b);
+        if state == 0 {
+            return model::unmoved(m, Answer::NoSleepState);
+        }
+        model::done(0, x, NextState::Changed(StateChange::Complete(state)))
     } else {
-        next
+        model::done(0, x, NextState::Same)
     }
 }

@@ -1,15 +1,27 @@
 // General events.
 use crate::buttons::in_s5;
+use crate::buttons::wakes_if;
 use machine::GPE_BYTES;
+use machine::GpeArray;
+use machine::GpeStore;
 use machine::Machine;
+use machine::Scalars;
 use machine::WakeSource;
 use machine::has_bit8;
+use model::Answer;
+use model::Effect;
 use platform::Settings;
 ghost use mathlib.Core.Path.{_≡_};
-ghost use Prim.Native.Nat.{_-_, _^_, _<_};
-ghost use Rattle.model.specs.Events.{inGpe0, inGpe1, numberIn, withBit, isEnabled, generalRaised, generalEnabled, generalOf};
+ghost use mathlib.Core.Bool.{_||_};
+ghost use Prim.Native.Nat.{_-_, _/_, _^_, _<_};
+ghost use lib.ListN.{getD};
+ghost use Rattle.machine.specs.Fields.{withGpePending};
+ghost use Rattle.machine.specs.Scalars.{scalarsOf};
+ghost use Rattle.model.specs.Effect.{generalByte, generalEffect, eventEffect};
+ghost use Rattle.model.specs.EventKinds as kind;
+ghost use Rattle.model.specs.Events.{gpe, inGpe0, inGpe1, numberIn, isEnabled, generalEnabled};
 
-pub(crate) fn in_gpe0(s: Settings, k: u32) -> bool
+fn in_gpe0(s: Settings, k: u32) -> bool
     ensures { λ r. ⌜ r ≡ inGpe0 s k ⌝ }
 {
     let block = s.gpe0;
@@ -29,7 +41,7 @@ fn past_base(s: Settings, k: u32) -> u64
     bits::past(k as u64, wide(s.gpe1_base))
 }
 
-pub(crate) fn in_gpe1(s: Settings, k: u32) -> bool
+fn in_gpe1(s: Settings, k: u32) -> bool
     ensures { λ r. ⌜ r ≡ inGpe1 s k ⌝ }
 {
     let block = s.gpe1;
@@ -54,29 +66,18 @@ fn bit8(j: u64) -> u8
     1 << j
 }
 
-// Status bytes with event k's bit set.
-fn with_bit(xs: [u8; GPE_BYTES], k: u64) -> [u8; GPE_BYTES]
-    ensures { λ r. ⌜ r ≡ withBit xs k ⌝ }
+// The byte where event k's bit lies; past the last there are none.
+fn byte_of(xs: [u8; GPE_BYTES], k: u64) -> u8
+    ensures { λ r. ⌜ r ≡ getD xs (k / 8) 0 ⌝ }
 {
     let i = (k / 8) as usize;
-    let mut ys = xs;
-    if i < GPE_BYTES {
-        ys[i] = xs[i] | bit8(k % 8);
-        ys
-    } else {
-        ys
-    }
+    if i < GPE_BYTES { xs[i] } else { 0 }
 }
 
 fn is_enabled(xs: [u8; GPE_BYTES], k: u64) -> bool
     ensures { λ r. ⌜ r ≡ isEnabled xs k ⌝ }
 {
-    let i = (k / 8) as usize;
-    if i < GPE_BYTES {
-        has_bit8(xs[i], bit8(k % 8))
-    } else {
-        false
-    }
+    has_bit8(byte_of(xs, k), bit8(k % 8))
 }
 
 fn general_enabled(m: Machine, k: u32) -> bool
@@ -92,33 +93,71 @@ fn general_enabled(m: Machine, k: u32) -> bool
     }
 }
 
-// Its bit is set; where it is enabled, one is pending.
-fn general_raised(mut m: Machine, k: u32) -> Machine
-    ensures { λ r. ⌜ r ≡ generalRaised m k ⌝ }
+// Where it is enabled, one is pending.
+fn pending_raised(m: Machine, k: u32) -> Scalars
+    ensures { λ r. ⌜ r ≡ scalarsOf (withGpePending m (generalEnabled m k || m .«gpe_pending»)) ⌝ }
+{
+    let pending = general_enabled(m, k) | m.gpe_pending;
+    let mut x = m.scalars();
+    x.gpe_pending = pending;
+    x
+}
+
+// The status byte with event k's bit set, of GPE0 or else of GPE1.
+fn raised_byte(m: Machine, k: u32) -> GpeStore
+    ensures { λ r. ⌜ r ≡ generalByte m k ⌝ }
 {
     let s = m.settings;
     let sts0 = m.gpe0_sts;
     let sts1 = m.gpe1_sts;
-    let pending = general_enabled(m, k) | m.gpe_pending;
-    m.gpe_pending = pending;
     if in_gpe0(s, k) {
-        let raised = with_bit(sts0, k as u64);
-        m.gpe0_sts = raised;
-        m
+        let n = k as u64;
+        let byte = byte_of(sts0, n) | bit8(n % 8);
+        GpeStore {
+            place: n / 8,
+            byte,
+            walks: false,
+            array: GpeArray::Gpe0Sts,
+        }
     } else {
-        let raised = with_bit(sts1, number_in(s, k));
-        m.gpe1_sts = raised;
-        m
+        let n = number_in(s, k);
+        let byte = byte_of(sts1, n) | bit8(n % 8);
+        GpeStore {
+            place: n / 8,
+            byte,
+            walks: false,
+            array: GpeArray::Gpe1Sts,
+        }
     }
 }
 
 // Its bit is set, and wakes where it is enabled. In S5 it does nothing.
-pub(crate) fn general(m: Machine, k: u32) -> Machine
-    ensures { λ r. ⌜ r ≡ generalOf m k ⌝ }
+fn raise_general(m: Machine, k: u32) -> Effect
+    ensures { λ r. ⌜ r ≡ generalEffect m k ⌝ }
 {
     if in_s5(m) {
-        m
+        model::unmoved(m, Answer::Done(0))
     } else {
-        general_raised(m, k).wake_if(WakeSource::Gpe(k), general_enabled(m, k))
+        let scalars = pending_raised(m, k);
+        let store = raised_byte(m, k);
+        let next = wakes_if(m, WakeSource::Gpe(k), general_enabled(m, k));
+        Effect {
+            answer: Answer::Done(0),
+            scalars,
+            store,
+            next,
+        }
+    }
+}
+
+// 29, or what it does.
+pub(crate) fn general(m: Machine, k: u32) -> Effect
+    ensures { λ r. ⌜ r ≡ eventEffect m (gpe k) (kind.general k) ⌝ }
+{
+    let s = m.settings;
+    if in_gpe0(s, k) | in_gpe1(s, k) {
+        raise_general(m, k)
+    } else {
+        model::unmoved(m, Answer::NoSuchEvent)
     }
 }

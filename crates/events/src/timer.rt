@@ -1,20 +1,23 @@
 // Ticks of the PM timer.
 use crate::buttons::fits;
-use crate::buttons::raise;
-use crate::gives;
 use bits::pick16;
 use clock::Clock;
 use machine::Machine;
+use machine::NextState;
+use machine::Scalars;
+use machine::StateChange;
 use machine::TMR;
 use machine::awake;
-use model::Stepped;
+use model::Answer;
+use model::Effect;
 use platform::Settings;
 ghost use mathlib.Core.Path.{_≡_};
-ghost use mathlib.Core.Bool.{cond};
 ghost use Rattle.machine.specs.Fields.{withTime};
-ghost use Rattle.machine.specs.Sleep.{overridden};
-ghost use Rattle.model.specs.Events.{tmrRaised, timed, tickedBy, turnsBy};
-ghost use Rattle.model.specs.declared.Answer.the-variants as answer;
+ghost use Rattle.machine.specs.Scalars.{scalarsOf};
+ghost use Rattle.model.specs.Effect.{overriddenIf, eventEffect};
+ghost use Rattle.model.specs.EventKinds as kind;
+ghost use Rattle.model.specs.Events.{eventBit, raised, tmrRaised};
+ghost use Rattle.model.specs.declared.Event.the-variants as event;
 
 fn tmr_raised(s: Settings, turns: u32) -> u16
     ensures { λ r. ⌜ r ≡ tmrRaised s turns ⌝ }
@@ -22,39 +25,39 @@ fn tmr_raised(s: Settings, turns: u32) -> u16
     pick16(fits(s, TMR) & (turns != 0), TMR, 0)
 }
 
-fn set_time(mut m: Machine, counter: u32, hold: u32) -> Machine
-    ensures { λ r. ⌜ r ≡ withTime m counter hold ⌝ }
-{
-    m.counter = counter;
-    m.hold = hold;
-    m
-}
-
-fn overridden_if(off: bool, m: Machine) -> Machine
-    ensures { λ r. ⌜ r ≡ cond off (overridden m) m ⌝ }
-{
-    if off { m.override_power() } else { m }
-}
-
-fn timed(m: Machine, t: Clock) -> Machine
-    ensures { λ r. ⌜ r ≡ timed m t ⌝ }
+// The scalars with a clock's counter, hold and turns.
+fn timed(m: Machine, t: Clock) -> Scalars
+    ensures { λ r. ⌜ r ≡ scalarsOf (withTime (raised m (tmrRaised (m .settings) (t .turns))) (t .counter) (t .hold)) ⌝ }
 {
     let s = m.settings;
-    let raised = raise(m, tmr_raised(s, t.turns));
-    overridden_if(t.off, set_time(raised, t.counter, t.hold))
+    let raised = tmr_raised(s, t.turns);
+    let mut x = m.scalars();
+    x.pm1_sts = x.pm1_sts | raised;
+    x.counter = t.counter;
+    x.hold = t.hold;
+    x
+}
+
+fn overridden_if(off: bool) -> NextState
+    ensures { λ r. ⌜ r ≡ overriddenIf off ⌝ }
+{
+    if off {
+        NextState::Changed(StateChange::Override)
+    } else {
+        NextState::Same
+    }
 }
 
 // n ticks at once, in S0 only: how often the counter's top bit turned, and the machine after them.
-pub(crate) fn ticks(m: Machine, n: u32) -> Stepped
-    ensures { λ r. ⌜ r ≡ record { answer = answer.Done (turnsBy n m); machine = tickedBy n m } ⌝ }
+pub(crate) fn ticks(m: Machine, n: u32) -> Effect
+    ensures { λ r. ⌜ r ≡ eventEffect m (eventBit (event.Ticks n)) (kind.ticks n) ⌝ }
 {
     let s = m.settings;
     let wide = platform::wide_timer(s);
-    // Outside S0 nothing of it is used.
-    let t = clock::ticks(wide, m.button, s.power_override, m.counter, m.hold, n);
     if awake(m) {
-        gives(t.turns, timed(m, t))
+        let t = clock::ticks(wide, m.button, s.power_override, m.counter, m.hold, n);
+        model::done(t.turns, timed(m, t), overridden_if(t.off))
     } else {
-        gives(0, m)
+        model::unmoved(m, Answer::Done(0))
     }
 }

@@ -1,11 +1,14 @@
 // Firmware steps.
 use machine::Machine;
+use machine::NextState;
+use machine::Scalars;
 use machine::awake;
 use model::Answer;
-use model::Stepped;
+use model::Effect;
 ghost use mathlib.Core.Path.{_≡_};
+ghost use Rattle.machine.specs.Scalars.{scalarsOf};
+ghost use Rattle.model.specs.Effect.{effectOf};
 ghost use Rattle.model.specs.Firmware.{isAcpiEnable, isAcpiDisable, sciEnAfter, enablesAfter, takeOf, dropOf};
-ghost use Rattle.model.specs.Step.{answerTo, stepOf};
 ghost use Rattle.model.specs.declared.Step.the-variants as step;
 
 fn is_acpi_enable(m: Machine) -> bool
@@ -44,16 +47,17 @@ fn enables_after(m: Machine) -> u16
     }
 }
 
-fn take_command(mut m: Machine) -> Machine
-    ensures { λ r. ⌜ r ≡ takeOf m ⌝ }
+fn take_command(m: Machine) -> Scalars
+    ensures { λ r. ⌜ r ≡ scalarsOf (takeOf m) ⌝ }
 {
     let en = enables_after(m);
     let sci_en = sci_en_after(m);
-    m.pm1_en = en;
-    m.sci_en = sci_en;
-    m.command_waits = false;
-    m.command = 0;
-    m
+    let mut x = m.scalars();
+    x.pm1_en = en;
+    x.sci_en = sci_en;
+    x.command_waits = false;
+    x.command = 0;
+    x
 }
 
 fn wide(x: u8) -> u32
@@ -62,61 +66,36 @@ fn wide(x: u8) -> u32
     x as u32
 }
 
-// 20 and 31; else the command.
-fn take_answer(m: Machine) -> Answer
-    ensures { λ r. ⌜ r ≡ answerTo m step.Take ⌝ }
+// The firmware takes the waiting command: 20 and 31; else the command.
+pub fn take(m: Machine) -> Effect
+    ensures { λ r. ⌜ r ≡ effectOf m step.Take ⌝ }
 {
     if awake(m) {
         if m.command_waits {
-            Answer::Done(wide(m.command))
+            model::done(wide(m.command), take_command(m), NextState::Same)
         } else {
-            Answer::NoCommand
+            model::unmoved(m, Answer::NoCommand)
         }
     } else {
-        Answer::Asleep
+        model::unmoved(m, Answer::Asleep)
     }
 }
 
-// The firmware takes the waiting command.
-pub fn take(m: Machine) -> Stepped
-    ensures { λ r. ⌜ r ≡ stepOf m step.Take ⌝ }
+fn drop_flag(m: Machine) -> Scalars
+    ensures { λ r. ⌜ r ≡ scalarsOf (dropOf m) ⌝ }
 {
-    let answer = take_answer(m);
-    if model::accepted(answer) {
-        let machine = take_command(m);
-        Stepped { answer, machine }
-    } else {
-        Stepped { answer, machine: m }
-    }
+    let mut x = m.scalars();
+    x.gbl_rls = false;
+    x
 }
 
-fn drop_flag(mut m: Machine) -> Machine
-    ensures { λ r. ⌜ r ≡ dropOf m ⌝ }
-{
-    m.gbl_rls = false;
-    m
-}
-
-// 20, else 0.
-fn drop_answer(m: Machine) -> Answer
-    ensures { λ r. ⌜ r ≡ answerTo m step.Drop ⌝ }
+// The firmware drops the release flag: 20, else 0.
+pub fn drop(m: Machine) -> Effect
+    ensures { λ r. ⌜ r ≡ effectOf m step.Drop ⌝ }
 {
     if awake(m) {
-        Answer::Done(0)
+        model::done(0, drop_flag(m), NextState::Same)
     } else {
-        Answer::Asleep
-    }
-}
-
-// The firmware drops the release flag.
-pub fn drop(m: Machine) -> Stepped
-    ensures { λ r. ⌜ r ≡ stepOf m step.Drop ⌝ }
-{
-    let answer = drop_answer(m);
-    if model::accepted(answer) {
-        let machine = drop_flag(m);
-        Stepped { answer, machine }
-    } else {
-        Stepped { answer, machine: m }
+        model::unmoved(m, Answer::Asleep)
     }
 }

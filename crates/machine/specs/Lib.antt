@@ -1,6 +1,9 @@
 pub mod PowerOn
 pub mod SetUp
 pub mod Fields
+pub mod Scalars
 pub mod Status
 pub mod Lines
 pub mod Sleep
+pub mod Gpe
+pub mod Applied

@@ -10,6 +10,10 @@ use Rattle.machine.specs.PowerOn.{noBytes}
 use Rattle.machine.specs.declared.Machine.{Machine}
 use Rattle.machine.specs.declared.sleeping.WakeSource.{WakeSource}
 use Rattle.machine.specs.declared.sleeping.WakeSource.the-variants as source
+use Rattle.machine.specs.declared.sleeping.StateChange.{StateChange}
+use Rattle.machine.specs.declared.sleeping.StateChange.the-variants as change
+use Rattle.machine.specs.declared.sleeping.NextState.{NextState}
+use Rattle.machine.specs.declared.sleeping.NextState.the-variants as next
 use Rattle.platform.specs.declared.settings.Settings.{Settings}
 use Rattle.machine.specs.Status.{pwrbtnBit, slpbtnBit, rtcBit, wakBit, hasBit}
 use Rattle.machine.specs.Fields.{withEvent, withGpe, withControl, withCommand, withArbDis, withSciEn, enter}
@@ -58,3 +62,19 @@ restarted m =
 -- "The tick that reaches this, with the override fitted, clears PWRBTN and enters S5."
 abbrev pub overridden : Machine → Machine
 overridden m = enter (withEvent m (kept 16 (m .«pm1_sts») pwrbtnBit) (m .«pm1_en»)) 5
+
+-- ---- what becomes of the sleep state in a step
+
+-- "From S5 only a press wakes: .. then PWRBTN set"
+abbrev pub restartPressed : Machine → Machine
+restartPressed m = withEvent (restarted m) pwrbtnBit 0
+
+unfoldable pub stateChanged : StateChange → Machine → Machine
+stateChanged (change.Wake source) m = woken source m
+stateChanged (change.Complete state) m = completed m state
+stateChanged change.Override m = overridden m
+stateChanged change.Restart m = restartPressed m
+
+unfoldable pub inNextState : NextState → Machine → Machine
+inNextState next.Same m = m
+inNextState (next.Changed c) m = stateChanged c m

@@ -1,15 +1,23 @@
 // The machine: all that a guest's power hardware holds, and setting it up.
+mod gpe;
 mod lines;
+mod scalars;
 mod sleeping;
 mod status;
 
+pub use gpe::GPE_BYTES;
+pub use gpe::GpeArray;
+pub use gpe::GpeStore;
 pub use lines::awake;
 pub use lines::sci;
 pub use lines::smi;
 use platform::Block;
 use platform::SetUpAnswer;
 use platform::Settings;
+pub use scalars::Scalars;
 use sleep::SleepTable;
+pub use sleeping::NextState;
+pub use sleeping::StateChange;
 pub use sleeping::WakeSource;
 pub use sleeping::is_sleeping;
 pub use sleeping::wake_bits;
@@ -28,9 +36,6 @@ ghost use mathlib.Core.Bool.{false};
 ghost use Rattle.platform.specs.Blocks.{noBlock};
 ghost use Rattle.machine.specs.PowerOn.{zeroed, powerOn, noSettings, allZero};
 ghost use Rattle.machine.specs.SetUp.{machineFor, setUpOf};
-
-// The most status bytes, and the most enable bytes, of a GPE block.
-pub const GPE_BYTES: usize = platform::GPE_LONGEST as usize / 2;
 
 pub struct Machine {
     pub settings: Settings,

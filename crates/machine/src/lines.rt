@@ -1,46 +1,15 @@
 // The SCI and SMI lines.
-use crate::GPE_BYTES;
 use crate::Machine;
 use crate::status::has_bit;
-use crate::status::has_bit8;
 use cells::Column;
 ghost use mathlib.Core.Path.{_≡_};
-ghost use Rattle.machine.specs.Lines.{awake, anyEnabled, walked, pm1Event, eventOutput, sciOf, smiOf};
+ghost use Rattle.machine.specs.Lines.{awake, pm1Event, eventOutput, sciOf, smiOf};
 
 // The working state, S0.
 pub fn awake(m: Machine) -> bool
     ensures { λ r. ⌜ r ≡ awake m ⌝ }
 {
     m.state == 0
-}
-
-// Whether some general status bit is set together with its enable.
-fn any_enabled(sts: [u8; GPE_BYTES], en: [u8; GPE_BYTES]) -> bool
-    ensures { λ r. ⌜ r ≡ anyEnabled sts en ⌝ }
-{
-    let mut i = 0;
-    while i < GPE_BYTES {
-        if has_bit8(sts[i], en[i]) {
-            return true;
-        }
-        i += 1;
-    }
-    false
-}
-
-impl Machine {
-    // The walk over all general event bytes; what it finds is stored.
-    pub fn walk_gpe(mut self) -> Machine
-        ensures { λ r. ⌜ r ≡ walked self ⌝ }
-    {
-        let sts0 = self.gpe0_sts;
-        let en0 = self.gpe0_en;
-        let sts1 = self.gpe1_sts;
-        let en1 = self.gpe1_en;
-        let pending = any_enabled(sts0, en0) | any_enabled(sts1, en1);
-        self.gpe_pending = pending;
-        self
-    }
 }
 
 // The bits that raise SCI or SMI, 0721 hex: those of TMR_EN, GBL_EN, PWRBTN_EN, SLPBTN_EN and RTC_EN, the same on every platform.

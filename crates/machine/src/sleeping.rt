@@ -1,5 +1,5 @@
 // Sleep and wake.
-use crate::GPE_BYTES;
+use crate::gpe::GPE_BYTES;
 use crate::Machine;
 use crate::status::PWRBTN;
 use crate::status::RTC;
@@ -7,11 +7,12 @@ use crate::status::SLPBTN;
 use crate::status::WAK;
 use crate::status::has_bit;
 use acpi::RTC_S4;
+use bits::pick8;
 use bits::pick16;
 use platform::Settings;
 ghost use mathlib.Core.Path.{_≡_};
-ghost use Rattle.machine.specs.Fields.{enter};
-ghost use Rattle.machine.specs.Sleep.{isSleeping, wakeBits, woken, wokenIf, pending, completed, restarted, overridden};
+ghost use Rattle.machine.specs.Fields.{withEvent, enter};
+ghost use Rattle.machine.specs.Sleep.{isSleeping, wakeBits, woken, pending, completed, restarted, overridden, restartPressed, stateChanged, inNextState};
 
 // What wakes a machine: a PM1 status bit by its number, a general event by its own, or not known which of several.
 pub enum WakeSource {
@@ -43,70 +44,107 @@ fn pending(machine: Machine, state: u8) -> bool
     has_bit(machine.pm1_sts & machine.pm1_en, wake_bits(settings, state)) | machine.gpe_pending
 }
 
+// What becomes of the sleep state in a step.
+pub enum StateChange {
+    // from S1 to S4
+    Wake(WakeSource),
+    // SLP_EN completes: to S1 to S5, or with a wake pending back to S0 at once
+    Complete(u8),
+    Override,
+    // a press in S5
+    Restart,
+}
+
+pub enum NextState {
+    Same,
+    Changed(StateChange),
+}
+
 impl Machine {
-    // Completing, wake and override all disarm.
-    fn enter(mut self, state: u8) -> Machine
-        ensures { λ r. ⌜ r ≡ enter self state ⌝ }
+    // Completing, wake and override all disarm; each may change PM1_STS too.
+    fn enter(self, sts: u16, state: u8) -> Machine
+        ensures { λ r. ⌜ r ≡ enter (withEvent self sts (self .«pm1_en»)) state ⌝ }
     {
-        self.armed = false;
-        self.state = state;
-        self
+        let mut x = self.scalars();
+        x.pm1_sts = sts;
+        x.armed = false;
+        x.state = state;
+        self.with_scalars(x)
     }
 
     // Wake from S1 to S4: WAK is set, registers are kept. Nothing keeps the source yet.
-    pub fn wake(mut self, source: WakeSource) -> Machine
+    pub fn wake(self, source: WakeSource) -> Machine
         ensures { λ r. ⌜ r ≡ woken source self ⌝ }
     {
-        self.pm1_sts = self.pm1_sts | WAK;
-        self.enter(0)
-    }
-
-    pub fn wake_if(self, source: WakeSource, test: bool) -> Machine
-        ensures { λ r. ⌜ r ≡ wokenIf source test self ⌝ }
-    {
-        if is_sleeping(self.state) & test {
-            self.wake(source)
-        } else {
-            self
-        }
+        self.enter(self.pm1_sts | WAK, 0)
     }
 
     // Completes a sleep; with a wake pending the machine wakes in the same step.
     pub fn complete(self, state: u8) -> Machine
         ensures { λ r. ⌜ r ≡ completed self state ⌝ }
     {
-        self.enter(state)
-            .wake_if(WakeSource::NotKnown, pending(self, state))
+        let wakes = is_sleeping(state) & pending(self, state);
+        let sts = pick16(wakes, self.pm1_sts | WAK, self.pm1_sts);
+        self.enter(sts, pick8(wakes, 0, state))
     }
 
     // A press in S5: cells, BM_RLD, SLP_TYP, PM2, release flag and command zero; SCI_EN as at power-on; the counter is kept.
-    pub fn restart(mut self) -> Machine
+    pub fn restart(self) -> Machine
         ensures { λ r. ⌜ r ≡ restarted self ⌝ }
     {
         let settings = self.settings;
-        self.pm1_sts = 0;
-        self.pm1_en = 0;
-        self.gpe0_sts = [0; GPE_BYTES];
-        self.gpe0_en = [0; GPE_BYTES];
-        self.gpe1_sts = [0; GPE_BYTES];
-        self.gpe1_en = [0; GPE_BYTES];
-        self.gpe_pending = false;
-        self.command_waits = false;
-        self.command = 0;
-        self.gbl_rls = false;
-        self.slp_typ_a = 0;
-        self.slp_typ_b = 0;
-        self.bm_rld = false;
-        self.arb_dis = false;
-        self.sci_en = settings.smi_cmd == 0;
-        self.enter(0)
+        let mut x = self.scalars();
+        x.pm1_en = 0;
+        x.gpe_pending = false;
+        x.command_waits = false;
+        x.command = 0;
+        x.gbl_rls = false;
+        x.slp_typ_a = 0;
+        x.slp_typ_b = 0;
+        x.bm_rld = false;
+        x.arb_dis = false;
+        x.sci_en = settings.smi_cmd == 0;
+        let mut next = self.with_scalars(x);
+        next.gpe0_sts = [0; GPE_BYTES];
+        next.gpe0_en = [0; GPE_BYTES];
+        next.gpe1_sts = [0; GPE_BYTES];
+        next.gpe1_en = [0; GPE_BYTES];
+        next.enter(0, 0)
     }
 
     // The power override: PWRBTN is cleared, and the machine is in S5.
-    pub fn override_power(mut self) -> Machine
+    pub fn override_power(self) -> Machine
         ensures { λ r. ⌜ r ≡ overridden self ⌝ }
     {
-        self.pm1_sts = self.pm1_sts & !PWRBTN;
-        self.enter(5)
+        self.enter(self.pm1_sts & !PWRBTN, 5)
+    }
+
+    // A press in S5 sets PWRBTN after the restart.
+    fn restart_pressed(self) -> Machine
+        ensures { λ r. ⌜ r ≡ restartPressed self ⌝ }
+    {
+        let mut next = self.restart();
+        next.pm1_sts = PWRBTN;
+        next
+    }
+
+    fn change_state(self, c: StateChange) -> Machine
+        ensures { λ r. ⌜ r ≡ stateChanged c self ⌝ }
+    {
+        match c {
+            StateChange::Wake(source) => self.wake(source),
+            StateChange::Complete(state) => self.complete(state),
+            StateChange::Override => self.override_power(),
+            StateChange::Restart => self.restart_pressed(),
+        }
+    }
+
+    pub fn go_on(self, next: NextState) -> Machine
+        ensures { λ r. ⌜ r ≡ inNextState next self ⌝ }
+    {
+        match next {
+            NextState::Same => self,
+            NextState::Changed(c) => self.change_state(c),
+        }
     }
 }

@@ -1,6 +1,7 @@
 pub mod LinesExactly
 pub mod Ticks
 pub mod Steps
+pub mod Effects
 pub mod Fitted
 pub mod Kept
 pub mod Settings

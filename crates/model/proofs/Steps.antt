@@ -229,9 +229,12 @@ module _ (m : Machine) (s : Step) where
       (λ e. accepted-none (answer.Done (doneValue m s)) (refusalsOf m s) 0 (lines-rise m s) e .1, λ none. none-accepted none _ refl)
 
   -- an accepted step answers with its value
-  pub accepted-value : accepted (answerTo m s) ≡ true → stepValue (answerTo m s) ≡ doneValue m s
+  pub accepted-answer : accepted (answerTo m s) ≡ true → answerTo m s ≡ answer.Done (doneValue m s)
   unfolding answerTo
-  accepted-value e = ap stepValue (accepted-none (answer.Done (doneValue m s)) (refusalsOf m s) 0 (lines-rise m s) (eqb-true _ _ e) .0)
+  accepted-answer e = accepted-none (answer.Done (doneValue m s)) (refusalsOf m s) 0 (lines-rise m s) (eqb-true _ _ e) .0
+
+  pub accepted-value : accepted (answerTo m s) ≡ true → stepValue (answerTo m s) ≡ doneValue m s
+  accepted-value e = ap stepValue (accepted-answer e)
 
 -- the refusal that a step is given, else an acceptance without its value
 abbrev pub refusalTo : Machine → Step → Answer

@@ -9,3 +9,4 @@ pub mod Step
 pub mod Raises
 pub mod Legal
 pub mod Turns
+pub mod Effect

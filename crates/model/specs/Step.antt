@@ -49,18 +49,23 @@ readRefusals m r width offset =
     answer.NotAllowed if not (allowed r width offset) ∷
     []
 
--- 20, then 21 to 27: of a write
-abbrev pub writeRefusals : Machine → Register → ℕ → ℕ → ℕ → List Refusal
-writeRefusals m r width offset written =
-    answer.Asleep if not (awake m) ∷
-    answer.WrongWidth if wrongWidth width ∷
-    answer.DataTooWide if dataTooWide width written ∷
+-- 23 to 27: of what a write reaches
+abbrev pub registerRefusals : Machine → Register → ℕ → ℕ → ℕ → List Refusal
+registerRefusals m r width offset written =
     answer.NoBlock if leadsNowhere r ∷
     answer.NotAllowed if not (allowed r width offset) ∷
     answer.TimerWritten if isTimer r ∷
     answer.CommandWaits if commandLost m r ∷
     answer.NoSleepState if namesNone m r width offset written ∷
     []
+
+-- 20, then 21 to 27: of a write
+abbrev pub writeRefusals : Machine → Register → ℕ → ℕ → ℕ → List Refusal
+writeRefusals m r width offset written =
+    answer.Asleep if not (awake m) ∷
+    answer.WrongWidth if wrongWidth width ∷
+    answer.DataTooWide if dataTooWide width written ∷
+    registerRefusals m r width offset written
 
 -- 28: "what a press, release, sleep press, alarm or PCIe wake belongs to is not fitted"
 abbrev pub unfitted : Machine → StatusBit → Refusal

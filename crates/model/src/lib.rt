@@ -1,7 +1,11 @@
 // The steps of the machine: what they are and what they answer. The definitions of what each does stand in specs/.
+use machine::GpeStore;
 use machine::Machine;
+use machine::NextState;
+use machine::Scalars;
 ghost use mathlib.Core.Path.{_≡_};
 ghost use Rattle.model.specs.Answer.{stepNumber, stepValue};
+ghost use Rattle.model.specs.Effect.{unmoved, done};
 ghost use Rattle.model.specs.Step.{accepted};
 
 // A bus access: its width in bytes, and its first port. In this order the port is a word of its own within a step, and a copied
@@ -69,6 +73,15 @@ pub struct Stepped {
     pub machine: Machine,
 }
 
+// A step, worked out and not done yet: the answer, the machine's scalars by the step's own rule, the general event byte that it stores, and
+// what becomes of the sleep state.
+pub struct Effect {
+    pub answer: Answer,
+    pub scalars: Scalars,
+    pub store: GpeStore,
+    pub next: NextState,
+}
+
 // Where a port leads; of two blocks, true is block B, or GPE1.
 pub enum Register {
     SmiCmd,
@@ -131,4 +144,28 @@ pub fn accepted(a: Answer) -> bool
     ensures { λ r. ⌜ r ≡ accepted a ⌝ }
 {
     number(a) == 0
+}
+
+// The machine stays as it is.
+pub fn unmoved(m: Machine, answer: Answer) -> Effect
+    ensures { λ r. ⌜ r ≡ unmoved m answer ⌝ }
+{
+    Effect {
+        answer,
+        scalars: m.scalars(),
+        store: GpeStore::nothing(),
+        next: NextState::Same,
+    }
+}
+
+// Accepted, with the value; the scalars change, and what becomes of the sleep state is given.
+pub fn done(value: u32, scalars: Scalars, next: NextState) -> Effect
+    ensures { λ r. ⌜ r ≡ done value scalars next ⌝ }
+{
+    Effect {
+        answer: Answer::Done(value),
+        scalars,
+        store: GpeStore::nothing(),
+        next,
+    }
 }

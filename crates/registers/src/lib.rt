@@ -13,9 +13,9 @@ use platform::Settings;
 ghost use mathlib.Core.Path.{_≡_};
 ghost use Prim.Native.Nat.{_-_, _%_, _^_};
 ghost use lib.Bits.{bitAnd};
-ghost use lib.ListN.{getD, set};
+ghost use lib.ListN.{getD};
 ghost use Rattle.bits.specs.Writes.{clearedBy, takenBy};
-ghost use Rattle.registers.specs.Registers.{homesIn, statusIn, enableIn, shown, covered, placed, statusRegister, enableRegister, clearable, controlIn, hasPm1bCnt, slpTyp, controlRegister, coversLow, coversHigh, writtenBit, gpeHalf, gpeSts, gpeEn, inGpeStatus, gpeStsByte, gpeEnByte, gpeStsCleared, gpeEnTaken};
+ghost use Rattle.registers.specs.Registers.{homesIn, statusIn, enableIn, shown, covered, placed, statusRegister, enableRegister, clearable, controlIn, hasPm1bCnt, slpTyp, controlRegister, coversLow, coversHigh, writtenBit, gpeHalf, gpeSts, gpeEn, inGpeStatus, gpeStsByte, gpeEnByte};
 
 // The bits that live in the block, B or A.
 fn homes_in(homes: u16, b: bool) -> u16
@@ -240,19 +240,6 @@ fn byte_at(bytes: [u8; GPE_BYTES], place: u64) -> u8
     if i < GPE_BYTES { bytes[i] } else { 0 }
 }
 
-// The bytes with another at a place; past the last nothing changes.
-fn with_byte(mut bytes: [u8; GPE_BYTES], place: u64, byte: u8) -> [u8; GPE_BYTES]
-    ensures { λ r. ⌜ r ≡ set bytes place byte ⌝ }
-{
-    let i = place as usize;
-    if i < GPE_BYTES {
-        bytes[i] = byte;
-        bytes
-    } else {
-        bytes
-    }
-}
-
 // The block's byte at an offset of its status half, and of its enable half.
 pub fn gpe_sts_byte(m: Machine, b: bool, offset: u64) -> u8
     ensures { λ r. ⌜ r ≡ gpeStsByte m b offset ⌝ }
@@ -273,22 +260,9 @@ pub fn low_byte(written: u32) -> u8
     (written % 256) as u8
 }
 
-// The status bytes with the ones of the byte written cleared.
-pub fn gpe_sts_cleared(m: Machine, b: bool, offset: u64, written: u32) -> [u8; GPE_BYTES]
-    ensures { λ r. ⌜ r ≡ gpeStsCleared m b offset written ⌝ }
+// The status byte with the ones of the byte written cleared.
+pub fn gpe_sts_cleared(m: Machine, b: bool, offset: u64, written: u32) -> u8
+    ensures { λ r. ⌜ r ≡ clearedBy 8 (gpeStsByte m b offset) written 255 ⌝ }
 {
-    let old = gpe_sts_byte(m, b, offset);
-    with_byte(
-        gpe_sts(m, b),
-        offset,
-        bits::clear8(old, low_byte(written), 255),
-    )
-}
-
-// The enable bytes with the byte written.
-pub fn gpe_en_taken(m: Machine, b: bool, offset: u64, written: u32) -> [u8; GPE_BYTES]
-    ensures { λ r. ⌜ r ≡ gpeEnTaken m b offset written ⌝ }
-{
-    let s = m.settings;
-    with_byte(gpe_en(m, b), past_status(s, b, offset), low_byte(written))
+    bits::clear8(gpe_sts_byte(m, b, offset), low_byte(written), 255)
 }

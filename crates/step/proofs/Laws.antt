@@ -1,10 +1,10 @@
 -- A step is the step of its kind.
 use mathlib.Core.Path.{_≡_, refl, _∙_, ap}
 use Rattle.machine.specs.declared.Machine.{Machine}
-use Rattle.model.specs.Step.{stepOf}
+use Rattle.model.specs.Effect.{effectOf}
+use Rattle.model.specs.declared.Effect.{Effect}
 use Rattle.model.specs.declared.Step.{Step}
 use Rattle.model.specs.declared.Step.the-variants as step
-use Rattle.model.specs.declared.Stepped.{Stepped}
 use Rattle.step.specs.Kinds.{stepKind, ofKind}
 use Rattle.step.specs.declared.StepKind.{StepKind}
 
@@ -16,6 +16,6 @@ kind-step (step.Event e) = refl
 kind-step step.Take = refl
 kind-step step.Drop = refl
 
--- what is done by the step's kind is the step
-pub done-by-kind : (m : Machine) (s : Step) (k : StepKind) (given : Stepped) → k ≡ stepKind s → given ≡ stepOf m (ofKind k) → given ≡ stepOf m s
-done-by-kind m s k given e d = d ∙ ap (λ x. stepOf m (ofKind x)) e ∙ ap (stepOf m) (kind-step s)
+-- the effect of the step's kind is the step's
+pub effect-by-kind : (m : Machine) (s : Step) (k : StepKind) (given : Effect) → k ≡ stepKind s → given ≡ effectOf m (ofKind k) → given ≡ effectOf m s
+effect-by-kind m s k given e d = d ∙ ap (λ x. effectOf m (ofKind x)) e ∙ ap (effectOf m) (kind-step s)

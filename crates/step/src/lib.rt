@@ -1,11 +1,13 @@
 // One step of the machine.
 use machine::Machine;
 use model::Access;
+use model::Effect;
 use model::Event;
 use model::Step;
 use model::Stepped;
 use model::Transfer;
 ghost use mathlib.Core.Path.{_≡_};
+ghost use Rattle.model.specs.Effect.{effectOf};
 ghost use Rattle.model.specs.Step.{stepOf};
 ghost use Rattle.step.specs.Kinds.{readTransfer, writeTransfer, stepKind};
 
@@ -49,8 +51,8 @@ fn kind_of(s: Step) -> StepKind
     }
 }
 
-fn stepped(m: Machine, s: Step) -> Stepped
-    ensures { λ r. ⌜ r ≡ stepOf m s ⌝ }
+fn effect(m: Machine, s: Step) -> Effect
+    ensures { λ r. ⌜ r ≡ effectOf m s ⌝ }
 {
     let kind = kind_of(s);
     match kind {
@@ -61,15 +63,16 @@ fn stepped(m: Machine, s: Step) -> Stepped
     }
 }
 
-// The answer, and the machine after it; a refusal leaves the machine as it was. No step changes the settings: handing on
-// those that came in lets a loop of steps keep them in place.
+// The answer, and the machine after it; a refusal leaves the machine as it was. First what the step comes to, in scalars; then it is
+// done to the machine, once.
 pub fn step(m: Machine, s: Step) -> Stepped
     ensures { λ r. ⌜ r ≡ stepOf m s ⌝ }
 {
-    let settings = m.settings;
-    let given = stepped(m, s);
-    let answer = given.answer;
-    let mut machine = given.machine;
-    machine.settings = settings;
+    let e = effect(m, s);
+    let answer = e.answer;
+    let scalars = e.scalars;
+    let store = e.store;
+    let next = e.next;
+    let machine = m.apply(scalars, store, next);
     Stepped { answer, machine }
 }

@@ -1,185 +1,215 @@
+-- `bus::cell_rules::write_cells` meets its contract: each arm is the rule of its register's byte. Assumes nothing.
 use mathlib.Core.Logic.{⊎-elim}
--- `bus::cell_rules::write_cells` meets its contract: each arm is the rule of its byte, and past a register's bytes a write does nothing. Assumes nothing.
-use Rattle.model.specs.Bus.{writeOf}
+use Rattle.bus.proofs.Laws.{cell-in-status, cell-past-status, past-two, at-register, smi-refuses, smi-takes, event-takes, control-takes, control-first, control-second, control-none, pm2-takes, timer-refuses, status-takes, enable-takes, nowhere-refuses}
 use borrow.Author.Needs.{needs}
-use Rattle.registers.specs.Registers.{inStatus, inEnable, statusAfter, enableAfter}
-use Rattle.bus.proofs.Laws.{cell-in-status, cell-past-status, status-byte-written, enable-byte-written, past-four, past-two, event-write-past, control-first, control-second, control-none}
 use Rattle.bus.proofs.cell_rules.write_cells.Statement.{statement}
 use Rattle.bus.proofs.cell_rules.write_cells.Tie as tie
+use Rattle.bus.proofs.cell_rules.write_cells.Reads as reads
+use Rattle.bus.proofs.cell_rules.write_cells.Lts as lts
+use Rattle.bus.proofs.cell_rules.en_byte.Reads as en-byte-reads
+use Rattle.bus.proofs.cell_rules.event_written.Reads as event-written-reads
+use Rattle.bus.proofs.cell_rules.gpe_number.Reads as gpe-number-reads
+use Rattle.bus.proofs.cell_rules.latch.Reads as latch-reads
+use Rattle.bus.proofs.cell_rules.stores.Reads as stores-reads
+use Rattle.bus.proofs.cell_rules.sts_byte.Reads as sts-byte-reads
+use Rattle.bus.proofs.cell_rules.with_arb_dis.Reads as with-arb-dis-reads
+use Rattle.control.proofs.write.Reads as write-reads
+use Rattle.model.proofs.done.Reads as done-reads
+use Rattle.model.proofs.unmoved.Reads as unmoved-reads
+use Rattle.registers.proofs.low_byte.Reads as low-byte-reads
 
+-- src/cell_rules.rt:201:16
 enum-told : tie.Need-enum-told
 enum-told c = search needs
 
+-- src/cell_rules.rt:202:17
+unmoved-requires : tie.Need-unmoved-requires
+unmoved-requires c κs = search needs
+
+-- src/cell_rules.rt:202:17
+returns : tie.Need-returns
+returns c =
+    let at : _ = c .before .before .before .before .before in
+    at-register (at .args .m) (at .args .width) (at .args .offset) (at .args .written) _ _ _ (c .before .before .enum-told .given .1) (at .pre)
+    (smi-refuses (at .args .m) (at .args .width) (at .args .offset) (at .args .written) _ (c .before .if1 .taken) (c .unmoved .ensures))
+
+-- src/cell_rules.rt:204:37
 low-byte-requires : tie.Need-low-byte-requires
 low-byte-requires c κs = search needs
 
+-- src/cell_rules.rt:204:28
 latch-requires : tie.Need-latch-requires
 latch-requires c κs = search needs
 
+-- src/cell_rules.rt:204:13
+done-requires : tie.Need-done-requires
+done-requires c κs = search needs
+
+-- src/cell_rules.rt:206:26
 enum-known-r : tie.Need-enum-known-r
 enum-known-r c = search needs
 
-clearable-requires : tie.Need-clearable-requires
-clearable-requires c κs = search needs
+-- src/cell_rules.rt:206:47
+event-written-requires : tie.Need-event-written-requires
+event-written-requires c κs = search needs
 
-enable-in-requires : tie.Need-enable-in-requires
-enable-in-requires c κs = search needs
+-- src/cell_rules.rt:206:32
+done-requires-2 : tie.Need-done-requires-2
+done-requires-2 c κs = search needs
 
-status-low-requires : tie.Need-status-low-requires
-status-low-requires c κs = search needs
-
-with-event-requires : tie.Need-with-event-requires
-with-event-requires c κs = search needs
-
-status-high-requires : tie.Need-status-high-requires
-status-high-requires c κs = search needs
-
-with-event-requires-2 : tie.Need-with-event-requires-2
-with-event-requires-2 c κs = search needs
-
-enable-low-requires : tie.Need-enable-low-requires
-enable-low-requires c κs = search needs
-
-with-event-requires-3 : tie.Need-with-event-requires-3
-with-event-requires-3 c κs = search needs
-
-enable-high-requires : tie.Need-enable-high-requires
-enable-high-requires c κs = search needs
-
-with-event-requires-4 : tie.Need-with-event-requires-4
-with-event-requires-4 c κs = search needs
-
+-- src/cell_rules.rt:207:26
 enum-known-r-2 : tie.Need-enum-known-r-2
 enum-known-r-2 c = search needs
 
+-- src/cell_rules.rt:219:13
 write-requires : tie.Need-write-requires
 write-requires c κs = search needs
 
+-- src/cell_rules.rt:223:29
 enum-told-2 : tie.Need-enum-told-2
 enum-told-2 c = search needs
 
+-- src/cell_rules.rt:223:13
 with-arb-dis-requires : tie.Need-with-arb-dis-requires
 with-arb-dis-requires c κs = search needs
 
+-- src/cell_rules.rt:221:29
+done-requires-3 : tie.Need-done-requires-3
+done-requires-3 c κs = search needs
+
+-- src/cell_rules.rt:226:46
 enum-told-3 : tie.Need-enum-told-3
 enum-told-3 c = search needs
 
+-- src/cell_rules.rt:226:28
+unmoved-requires-2 : tie.Need-unmoved-requires-2
+unmoved-requires-2 c κs = search needs
+
+-- src/cell_rules.rt:227:23
 enum-known-r-3 : tie.Need-enum-known-r-3
 enum-known-r-3 c = search needs
 
+-- src/cell_rules.rt:228:17
 gpe-number-requires : tie.Need-gpe-number-requires
 gpe-number-requires c κs = search needs
 
-gpe-sts-cleared-requires : tie.Need-gpe-sts-cleared-requires
-gpe-sts-cleared-requires c κs = search needs
+-- src/cell_rules.rt:230:38
+sts-byte-requires : tie.Need-sts-byte-requires
+sts-byte-requires c κs = search needs
 
-with-gpe-sts-requires : tie.Need-with-gpe-sts-requires
-with-gpe-sts-requires c κs = search needs
+-- src/cell_rules.rt:230:28
+stores-requires : tie.Need-stores-requires
+stores-requires c κs = search needs
 
-walk-gpe-requires : tie.Need-walk-gpe-requires
-walk-gpe-requires c κs = search needs
+-- src/cell_rules.rt:231:32
+en-byte-requires : tie.Need-en-byte-requires
+en-byte-requires c κs = search needs
 
-gpe-en-taken-requires : tie.Need-gpe-en-taken-requires
-gpe-en-taken-requires c κs = search needs
+-- src/cell_rules.rt:231:22
+stores-requires-2 : tie.Need-stores-requires-2
+stores-requires-2 c κs = search needs
 
-with-gpe-en-requires : tie.Need-with-gpe-en-requires
-with-gpe-en-requires c κs = search needs
-
-walk-gpe-requires-2 : tie.Need-walk-gpe-requires-2
-walk-gpe-requires-2 c κs = search needs
-
+-- src/cell_rules.rt:234:48
 enum-told-4 : tie.Need-enum-told-4
 enum-told-4 c = search needs
 
-returns : tie.Need-returns
-unfolding writeOf
-returns c = simp (c .latch .ensures, c .before .low-byte .ensures, c .before .before .enum-told .given .1)
+-- src/cell_rules.rt:234:30
+unmoved-requires-3 : tie.Need-unmoved-requires-3
+unmoved-requires-3 c κs = search needs
 
+-- src/cell_rules.rt:194:1
 returns-2 : tie.Need-returns-2
-unfolding writeOf inStatus inEnable statusAfter enableAfter
-returns-2 c = simp (c .with-event .ensures, c .before .status-low .ensures, c .before .before .before .enable-in .ensures, c .before .before .before .before .clearable .ensures, c .before .before .before .before .before .before .r .given .1, c .before .before .match2 .keys1)
+returns-2 c =
+    let at : _ = c .before .before .before .before .before .before .before in
+    at-register (at .args .m) (at .args .width) (at .args .offset) (at .args .written) _ _ _ (c .before .before .before .before .enum-told .given .1) (at .pre)
+    (smi-takes (at .args .m) (at .args .width) (at .args .offset) (at .args .written) _ (c .before .before .before .if1 .left) (simp (c .done .ensures, c .before .latch .ensures, c .before .before .low-byte .ensures)))
 
+-- src/cell_rules.rt:194:1
 returns-3 : tie.Need-returns-3
-unfolding writeOf inStatus inEnable statusAfter enableAfter
-returns-3 c = simp (c .with-event2 .ensures, c .before .status-high .ensures, c .before .before .before .enable-in .ensures, c .before .before .before .before .clearable .ensures, c .before .before .before .before .before .before .r .given .1, c .before .before .match2 .keys2)
+returns-3 c =
+    let at : _ = c .before .before .before .before .before .before in
+    at-register (at .args .m) (at .args .width) (at .args .offset) (at .args .written) _ _ _ (c .before .before .before .r .given .1) (at .pre)
+    (event-takes (at .args .m) (at .args .width) (at .args .offset) (at .args .written) _ _ (simp (c .done2 .ensures, c .before .event-written .ensures)))
 
+-- src/cell_rules.rt:194:1
 returns-4 : tie.Need-returns-4
-unfolding writeOf inStatus inEnable statusAfter enableAfter
-returns-4 c = simp (c .with-event3 .ensures, c .before .enable-low .ensures, c .before .before .before .enable-in .ensures, c .before .before .before .before .clearable .ensures, c .before .before .before .before .before .before .r .given .1, c .before .before .match2 .keys3)
-
-returns-5 : tie.Need-returns-5
-unfolding writeOf inStatus inEnable statusAfter enableAfter
-returns-5 c = simp (c .with-event4 .ensures, c .before .enable-high .ensures, c .before .before .before .enable-in .ensures, c .before .before .before .before .clearable .ensures, c .before .before .before .before .before .before .r .given .1, c .before .before .match2 .keys4)
-
-returns-6 : tie.Need-returns-6
-returns-6 c = let q : _ = c .match2 .rest in event-write-past _ _ _ _ _ _ (c .before .before .before .before .r .given .1) (past-four _ (q .0 .0 .0 .1) (q .0 .0 .1) (q .0 .1) (q .1))
-
-returns-7 : tie.Need-returns-7
-returns-7 c =
-    let is : _ = c .before .before .before .r2 .given .1 in
+returns-4 c =
+    let at : _ = c .before .before .before .before .before .before in
     let wrote : _ = c .write .ensures in
-    ⊎-elim
-    (λ w. control-first _ _ _ _ _ _ _ _ is wrote (w .0 .keys1) (w .1))
+    at-register (at .args .m) (at .args .width) (at .args .offset) (at .args .written) _ _ _ (c .before .before .before .r2 .given .1) (at .pre)
+    (control-takes (at .args .m) (at .args .width) (at .args .offset) (at .args .written) _ _
+    (⊎-elim
+    (λ w. control-first _ _ _ _ _ _ _ wrote (w .0 .keys1) (w .1))
     (λ v.
     ⊎-elim
-    (λ w. control-second _ _ _ _ _ _ _ _ is wrote (w .0 .keys2) (w .1))
-    (λ w. let q : _ = w .0 .rest in control-none _ _ _ _ _ _ _ _ is wrote (past-two _ (q .0 .1) (q .1)) (w .1))
+    (λ w. control-second _ _ _ _ _ _ _ wrote (w .0 .keys2) (w .1))
+    (λ w. let q : _ = w .0 .rest in control-none _ _ _ _ _ _ _ wrote (past-two _ (q .0 .1) (q .1)) (w .1))
     v)
-    (c .before .match3 .came)
+    (c .before .match2 .came)))
 
+-- src/cell_rules.rt:194:1
+returns-5 : tie.Need-returns-5
+returns-5 c =
+    let at : _ = c .before .before .before .before .before in
+    at-register (at .args .m) (at .args .width) (at .args .offset) (at .args .written) _ _ _ (c .before .before .enum-told2 .given .1) (at .pre)
+    (pm2-takes (at .args .m) (at .args .width) (at .args .offset) (at .args .written) _ (simp (c .done3 .ensures, c .before .with-arb-dis .ensures)))
+
+-- src/cell_rules.rt:194:1
+returns-6 : tie.Need-returns-6
+returns-6 c =
+    let at : _ = c .before .before .before .before in
+    at-register (at .args .m) (at .args .width) (at .args .offset) (at .args .written) _ _ _ (c .before .enum-told3 .given .1) (at .pre)
+    (timer-refuses (at .args .m) (at .args .width) (at .args .offset) (at .args .written) _ (c .unmoved2 .ensures))
+
+-- src/cell_rules.rt:194:1
+returns-7 : tie.Need-returns-7
+returns-7 c =
+    let at : _ = c .before .before .before .before .before .before .before .before in
+    at-register (at .args .m) (at .args .width) (at .args .offset) (at .args .written) _ _ _ (c .before .before .before .before .before .r3 .given .1) (at .pre)
+    (status-takes (at .args .m) (at .args .width) (at .args .offset) (at .args .written) _ _ (cell-in-status _ _ _ _ (c .before .before .before .gpe-number .ensures) (c .before .before .if2 .taken)) (simp (c .stores .ensures, c .before .sts-byte .ensures)))
+
+-- src/cell_rules.rt:194:1
 returns-8 : tie.Need-returns-8
-unfolding writeOf
-returns-8 c = simp (c .with-arb-dis .ensures, c .before .enum-told2 .given .1)
+returns-8 c =
+    let at : _ = c .before .before .before .before .before .before .before .before in
+    at-register (at .args .m) (at .args .width) (at .args .offset) (at .args .written) _ _ _ (c .before .before .before .before .before .r3 .given .1) (at .pre)
+    (enable-takes (at .args .m) (at .args .width) (at .args .offset) (at .args .written) _ _ (cell-past-status _ _ _ _ (c .before .before .before .gpe-number .ensures) (c .before .before .if2 .left)) (simp (c .stores2 .ensures, c .before .en-byte .ensures)))
 
+-- src/cell_rules.rt:194:1
 returns-9 : tie.Need-returns-9
-unfolding writeOf
-returns-9 c = simp (c .enum-told3 .given .1)
-
-returns-10 : tie.Need-returns-10
-unfolding writeOf
-returns-10 c = simp (c .walk-gpe .ensures, c .before .with-gpe-sts .ensures, c .before .before .gpe-sts-cleared .ensures, status-byte-written (c .before .before .before .before .before .before .before .before .before .args .m) _ _ (c .before .before .before .before .before .before .before .before .before .args .written) (cell-in-status _ _ _ _ (c .before .before .before .before .gpe-number .ensures) (c .before .before .before .if1 .taken)), c .before .before .before .before .before .before .r3 .given .1)
-
-returns-11 : tie.Need-returns-11
-unfolding writeOf
-returns-11 c = simp (c .walk-gpe2 .ensures, c .before .with-gpe-en .ensures, c .before .before .gpe-en-taken .ensures, enable-byte-written (c .before .before .before .before .before .before .before .before .before .args .m) _ _ (c .before .before .before .before .before .before .before .before .before .args .written) (cell-past-status _ _ _ _ (c .before .before .before .before .gpe-number .ensures) (c .before .before .before .if1 .left)), c .before .before .before .before .before .before .r3 .given .1)
-
-returns-12 : tie.Need-returns-12
-unfolding writeOf
-returns-12 c = simp (c .enum-told4 .given .1)
+returns-9 c =
+    let at : _ = c .before .before .before .before in
+    at-register (at .args .m) (at .args .width) (at .args .offset) (at .args .written) _ _ _ (c .before .enum-told4 .given .1) (at .pre)
+    (nowhere-refuses (at .args .m) (at .args .width) (at .args .offset) (at .args .written) _ (c .unmoved3 .ensures))
 
 pub write-cells-spec : {M : Type 1} → statement M
 write-cells-spec =
     tie.close
     (tie.spec
     enum-told
+    unmoved-requires
+    returns
     low-byte-requires
     latch-requires
+    done-requires
     enum-known-r
-    clearable-requires
-    enable-in-requires
-    status-low-requires
-    with-event-requires
-    status-high-requires
-    with-event-requires-2
-    enable-low-requires
-    with-event-requires-3
-    enable-high-requires
-    with-event-requires-4
+    event-written-requires
+    done-requires-2
     enum-known-r-2
     write-requires
     enum-told-2
     with-arb-dis-requires
+    done-requires-3
     enum-told-3
+    unmoved-requires-2
     enum-known-r-3
     gpe-number-requires
-    gpe-sts-cleared-requires
-    with-gpe-sts-requires
-    walk-gpe-requires
-    gpe-en-taken-requires
-    with-gpe-en-requires
-    walk-gpe-requires-2
+    sts-byte-requires
+    stores-requires
+    en-byte-requires
+    stores-requires-2
     enum-told-4
-    returns
+    unmoved-requires-3
     returns-2
     returns-3
     returns-4
@@ -187,7 +217,4 @@ write-cells-spec =
     returns-6
     returns-7
     returns-8
-    returns-9
-    returns-10
-    returns-11
-    returns-12)
+    returns-9)

@@ -1,36 +1,37 @@
-use mathlib.Core.Path.{sym, _∙_}
+use mathlib.Core.Path.{refl, sym, _∙_}
+use Rattle.model.specs.Effect.{eventEffect}
+use Rattle.model.specs.Answer.{firstApplying}
 use borrow.Author.Needs.{needs}
-use Rattle.model.specs.Events.{signalOf}
 use Rattle.events.proofs.buttons.signal.Statement.{statement}
 use Rattle.events.proofs.buttons.signal.Tie as tie
+use Rattle.events.proofs.buttons.signal.Reads as reads
+use Rattle.events.proofs.buttons.signal.Lts as lts
+use Rattle.events.proofs.buttons.fits.Reads as fits-reads
+use Rattle.events.proofs.buttons.raise_signal.Reads as raise-signal-reads
+use Rattle.model.proofs.unmoved.Reads as unmoved-reads
 
-in-s5-requires : tie.Need-in-s5-requires
-in-s5-requires c κs = search needs
+-- src/buttons.rt:149:8
+fits-requires : tie.Need-fits-requires
+fits-requires c κs = search needs
 
-raise-requires : tie.Need-raise-requires
-raise-requires c κs = search needs
+-- src/buttons.rt:150:9
+raise-signal-requires : tie.Need-raise-signal-requires
+raise-signal-requires c κs = search needs
 
-signal-wakes-requires : tie.Need-signal-wakes-requires
-signal-wakes-requires c κs = search needs
+-- src/buttons.rt:152:9
+unmoved-requires : tie.Need-unmoved-requires
+unmoved-requires c κs = search needs
 
-wake-if-requires : tie.Need-wake-if-requires
-wake-if-requires c κs = search needs
-
+-- src/buttons.rt:144:1
 returns : tie.Need-returns
-unfolding signalOf
-returns c = simp (sym (c .before .in-s5 .ensures) ∙ c .if1 .taken)
+unfolding eventEffect firstApplying
+returns c = simp (c .raise-signal .ensures, rw (c .before .before .before .before .pre) at (sym (c .before .before .fits2 .ensures) ∙ c .before .if1 .taken))
 
+-- src/buttons.rt:144:1
 returns-2 : tie.Need-returns-2
-unfolding signalOf
-returns-2 c = simp (c .wake-if .ensures, c .before .signal-wakes .ensures, c .before .before .raise .ensures, sym (c .before .before .before .before .in-s5 .ensures) ∙ c .before .before .before .if1 .left, c .before .before .before .before .before .pre)
+unfolding eventEffect firstApplying
+returns-2 c = simp (c .unmoved .ensures, rw (c .before .before .before .before .pre) at (sym (c .before .before .fits2 .ensures) ∙ c .before .if1 .left))
 
 pub signal-spec : {M : Type 1} → statement M
 signal-spec =
-    tie.close
-    (tie.spec
-    in-s5-requires
-    raise-requires
-    signal-wakes-requires
-    wake-if-requires
-    returns
-    returns-2)
+    tie.close (tie.spec fits-requires raise-signal-requires unmoved-requires returns returns-2)

@@ -1,33 +1,28 @@
--- `events::general::is_enabled` meets its contract: the bit is looked up in its byte, and past the bytes a byte is zero. Assumes nothing.
-use Prim.Native.Nat.{_≤_, _/_}
-use native.Mathlib.Omega.{arith}
-use lib.ListN.{length, List·getD-eq-default}
-use Rattle.machine.specs.Status.{hasBit}
-use mathlib.Core.Path.{refl}
+use mathlib.Core.Path.{refl, sym, _∙_}
 use borrow.Author.Needs.{needs}
 use Rattle.events.proofs.general.is_enabled.Statement.{statement}
 use Rattle.events.proofs.general.is_enabled.Tie as tie
+use Rattle.events.proofs.general.is_enabled.Reads as reads
+use Rattle.events.proofs.general.is_enabled.Lts as lts
+use Rattle.events.proofs.general.bit8.Reads as bit8-reads
+use Rattle.events.proofs.general.byte_of.Reads as byte-of-reads
+use Rattle.machine.proofs.has_bit8.Reads as has-bit8-reads
 
-array-read-has-bit8 : tie.Need-array-read-has-bit8
-array-read-has-bit8 c = search needs
+-- src/general.rt:79:14
+byte-of-requires : tie.Need-byte-of-requires
+byte-of-requires c κs = search needs
 
+-- src/general.rt:79:30
 bit8-requires : tie.Need-bit8-requires
 bit8-requires c κs = search needs
 
+-- src/general.rt:79:5
 has-bit8-requires : tie.Need-has-bit8-requires
 has-bit8-requires c κs = search needs
 
+-- src/general.rt:76:1
 returns : tie.Need-returns
-returns c = simp (c .has-bit8 .ensures, c .before .bit8 .ensures)
-
-returns-2 : tie.Need-returns-2
-unfolding hasBit
-returns-2 c =
-    let xs = c .before .args .t1 in
-    let h : length xs ≤ c .before .args .k / 8 = omega arith in
-    rw (List·getD-eq-default xs 0 h) refl
+returns c = simp (c .has-bit8 .ensures, c .before .bit8 .ensures, c .before .before .byte-of .ensures)
 
 pub is-enabled-spec : {M : Type 1} → statement M
-is-enabled-spec =
-    tie.close
-    (tie.spec array-read-has-bit8 bit8-requires has-bit8-requires returns returns-2)
+is-enabled-spec = tie.close (tie.spec byte-of-requires bit8-requires has-bit8-requires returns)

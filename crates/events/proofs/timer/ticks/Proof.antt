@@ -1,58 +1,68 @@
--- `events::timer::ticks` meets its contract: n ticks in S0 are the clock's n ticks at once, and outside S0 they change nothing
--- (`model`'s ticks-awake and ticks-asleep, turns-awake and turns-asleep). Assumes nothing.
-use mathlib.Core.Path.{_≡_, sym, _∙_}
-use Prim.Native.Nat.{ℕ}
-use Rattle.machine.specs.declared.Machine.{Machine}
-use Rattle.model.specs.declared.Answer.the-variants as answer
-use Rattle.model.specs.declared.Stepped.{Stepped}
-use Rattle.model.proofs.Ticks.{ticks-awake, ticks-asleep}
-use Rattle.model.proofs.Turns.{turns-awake, turns-asleep}
+use mathlib.Core.Path.{refl, sym, _∙_}
+use Rattle.model.specs.Effect.{eventEffect}
+use Rattle.model.specs.Answer.{firstApplying}
+use Rattle.model.specs.Effect.{ticksEffect}
 use borrow.Author.Needs.{needs}
 use Rattle.events.proofs.timer.ticks.Statement.{statement}
 use Rattle.events.proofs.timer.ticks.Tie as tie
+use Rattle.events.proofs.timer.ticks.Reads as reads
+use Rattle.events.proofs.timer.ticks.Lts as lts
+use Rattle.clock.proofs.ticks.Reads as ticks-reads
+use Rattle.events.proofs.timer.overridden_if.Reads as overridden-if-reads
+use Rattle.events.proofs.timer.timed.Reads as timed-reads
+use Rattle.machine.proofs.awake.Reads as awake-reads
+use Rattle.model.proofs.done.Reads as done-reads
+use Rattle.model.proofs.unmoved.Reads as unmoved-reads
+use Rattle.platform.proofs.wide_timer.Reads as wide-timer-reads
 
+-- src/timer.rt:56:9
 wide-timer-requires : tie.Need-wide-timer-requires
 wide-timer-requires c κs = search needs
 
-ticks-requires : tie.Need-ticks-requires
-ticks-requires c κs = search needs
-
+-- src/timer.rt:57:8
 awake-requires : tie.Need-awake-requires
 awake-requires c κs = search needs
 
+-- src/timer.rt:58:13
+ticks-requires : tie.Need-ticks-requires
+ticks-requires c κs = search needs
+
+-- src/timer.rt:59:30
 timed-requires : tie.Need-timed-requires
 timed-requires c κs = search needs
 
-gives-requires : tie.Need-gives-requires
-gives-requires c κs = search needs
+-- src/timer.rt:59:43
+overridden-if-requires : tie.Need-overridden-if-requires
+overridden-if-requires c κs = search needs
 
-gives-requires-2 : tie.Need-gives-requires-2
-gives-requires-2 c κs = search needs
+-- src/timer.rt:59:9
+done-requires : tie.Need-done-requires
+done-requires c κs = search needs
 
--- the value and the machine
-both : {v w : ℕ} {x y : Machine} → v ≡ w → x ≡ y
-    → _≡_ {A = Stepped} (record { answer = answer.Done v; machine = x }) (record { answer = answer.Done w; machine = y })
-both p q = λ i. record { answer = answer.Done (p i); machine = q i }
+-- src/timer.rt:61:9
+unmoved-requires : tie.Need-unmoved-requires
+unmoved-requires c κs = search needs
 
+-- src/timer.rt:52:1
 returns : tie.Need-returns
-returns c =
-    let a = c .before .before .before .before .before .before .before .args in
-    let up = sym (c .before .before .before .awake .ensures) ∙ c .before .before .if1 .taken in
-    simp (
-      c .gives .ensures,
-      c .before .timed .ensures,
-      c .before .before .before .before .ticks .ensures,
-      c .before .before .before .before .before .wide-timer .ensures,
-    )
-    (both (sym (turns-awake (a .n) (a .m) up)) (sym (ticks-awake (a .n) (a .m) up)))
+unfolding eventEffect firstApplying ticksEffect
+returns c = simp (c .done .ensures, c .before .overridden-if .ensures, c .before .before .timed .ensures, c .before .before .before .ticks .ensures, sym (c .before .before .before .before .before .awake .ensures) ∙ c .before .before .before .before .if1 .taken, c .before .before .before .before .before .before .wide-timer .ensures)
 
+-- src/timer.rt:52:1
 returns-2 : tie.Need-returns-2
-returns-2 c =
-    let a = c .before .before .before .before .before .before .args in
-    let asleep = sym (c .before .before .awake .ensures) ∙ c .before .if1 .left in
-    simp (c .gives2 .ensures) (both (sym (turns-asleep (a .n) (a .m) asleep)) (sym (ticks-asleep (a .n) (a .m) asleep)))
+unfolding eventEffect firstApplying ticksEffect
+returns-2 c = simp (c .unmoved .ensures, sym (c .before .before .awake .ensures) ∙ c .before .if1 .left, c .before .before .before .wide-timer .ensures)
 
 pub ticks-spec : {M : Type 1} → statement M
 ticks-spec =
     tie.close
-    (tie.spec wide-timer-requires ticks-requires awake-requires timed-requires gives-requires gives-requires-2 returns returns-2)
+    (tie.spec
+    wide-timer-requires
+    awake-requires
+    ticks-requires
+    timed-requires
+    overridden-if-requires
+    done-requires
+    unmoved-requires
+    returns
+    returns-2)

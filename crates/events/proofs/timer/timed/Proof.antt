@@ -1,25 +1,23 @@
-use Rattle.model.specs.Events.{timed}
+use mathlib.Core.Path.{refl, sym, _∙_}
 use borrow.Author.Needs.{needs}
 use Rattle.events.proofs.timer.timed.Statement.{statement}
 use Rattle.events.proofs.timer.timed.Tie as tie
+use Rattle.events.proofs.timer.timed.Reads as reads
+use Rattle.events.proofs.timer.timed.Lts as lts
+use Rattle.events.proofs.timer.tmr_raised.Reads as tmr-raised-reads
+use Rattle.machine.proofs.Machine.scalars.Reads as scalars-reads
 
+-- src/timer.rt:31:9
 tmr-raised-requires : tie.Need-tmr-raised-requires
 tmr-raised-requires c κs = search needs
 
-raise-requires : tie.Need-raise-requires
-raise-requires c κs = search needs
+-- src/timer.rt:32:9
+scalars-requires : tie.Need-scalars-requires
+scalars-requires c κs = search needs
 
-set-time-requires : tie.Need-set-time-requires
-set-time-requires c κs = search needs
-
-overridden-if-requires : tie.Need-overridden-if-requires
-overridden-if-requires c κs = search needs
-
+-- src/timer.rt:27:1
 returns : tie.Need-returns
-unfolding timed
-returns c = simp (c .overridden-if .ensures, c .before .set-time .ensures, c .before .before .raise .ensures, c .before .before .before .tmr-raised .ensures)
+returns c = simp (c .before .scalars .ensures, c .before .before .tmr-raised .ensures)
 
 pub timed-spec : {M : Type 1} → statement M
-timed-spec =
-    tie.close
-    (tie.spec tmr-raised-requires raise-requires set-time-requires overridden-if-requires returns)
+timed-spec = tie.close (tie.spec tmr-raised-requires scalars-requires returns)
