@@ -14,7 +14,7 @@ ghost use Rattle.bus.specs.GpeBytes.{gpeNumber};
 ghost use Rattle.machine.specs.Fields.{withEvent, withGpe, withCommand, withArbDis};
 ghost use Rattle.model.specs.Bus.{timerRegister, readOf, writeOf};
 
-// A GPE block's bytes as cells, since a length is a byte: status bytes from 0 on, enable bytes from 256 on.
+// A GPE block's bytes as cells, since a machine has fewer than 256 of each: status bytes from 0 on, enable bytes from 256 on.
 fn gpe_number(s: Settings, b: bool, offset: u64) -> u64
     ensures { λ r. ⌜ r ≡ gpeNumber s b offset ⌝ }
 {

@@ -6,15 +6,15 @@ ghost use Rattle.platform.specs.Blocks.{block, present, holds, overlap, 
 // The ports are 0 to 65,535.
 pub const PORTS: u64 = 65536;
 
-// Its first port and how many it has; absent where the address is zero.
+// Its first port and how many it has; absent where the address is zero. A length of 32 bits: padding of 7 bytes makes each copy dear.
 pub struct Block {
     pub address: u64,
-    pub length: u8,
+    pub length: u32,
 }
 
 impl Block {
     // Every block is made here.
-    pub fn new(address: u64, length: u8) -> Self
+    pub fn new(address: u64, length: u32) -> Self
         ensures { λ r. ⌜ r ≡ block address length ⌝ }
     {
         Block { address, length }

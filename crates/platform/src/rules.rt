@@ -40,7 +40,7 @@ ghost use Rattle.platform.specs.Rules.{
 pub const BLOCKS: usize = 9;
 
 // The longest GPE block.
-pub const GPE_LONGEST: u8 = 16;
+pub const GPE_LONGEST: u32 = 16;
 
 // The lines of the table of setting up, each of which refuses.
 pub enum SetUpRefusal {
@@ -173,7 +173,7 @@ fn hardware_reduced(s: Settings) -> bool
     cells::flag(s.flags, HW_REDUCED_ACPI)
 }
 
-fn wrong_block_length(n: u8, b: Block) -> bool
+fn wrong_block_length(n: u32, b: Block) -> bool
     ensures { λ r. ⌜ r ≡ wrongBlockLength n b ⌝ }
 {
     is_present(b) & (b.length != n)
