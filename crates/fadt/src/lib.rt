@@ -142,7 +142,8 @@ fn dword_at(table: &[u8], at: u8) -> u32
     )
 }
 
-fn table_short(table: &[u8]) -> bool
+// Line 1 of the table.
+pub fn table_short(table: &[u8]) -> bool
     ensures { λ r. ⌜ r ≡ tableShort (now (table .entry)) ⌝ }
 {
     table.len() < 116

@@ -8,6 +8,7 @@ pub use lines::sci;
 pub use lines::smi;
 use platform::Block;
 use platform::SetUpAnswer;
+use platform::SetUpRefusal;
 use platform::Settings;
 use sleep::SleepTable;
 pub use sleeping::WakeSource;
@@ -172,6 +173,12 @@ pub fn set_up(
 ) -> SetUp
     ensures { λ r. ⌜ r ≡ setUpOf (now (table .entry)) «event_homes» «control_homes» «power_override» pairs ⌝ }
 {
+    // Line 1 first: past it every field is within the table, and is read with no test of its place.
+    if fadt::table_short(table) {
+        let answer = SetUpAnswer::Refused(SetUpRefusal::TableShort);
+        let machine = all_zero();
+        return SetUp { answer, machine };
+    }
     let s = fadt::settings(table, event_homes, control_homes, power_override, pairs);
     let answer = fadt::judge(table, s);
     let machine = machine_for(answer, s);
