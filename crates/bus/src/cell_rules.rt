@@ -21,7 +21,7 @@ ghost use Rattle.machine.specs.Scalars.{scalarsOf};
 ghost use Rattle.model.specs.Bus.{allowed, timerRegister, readOf};
 ghost use Rattle.model.specs.Effect.{stsArray, enArray, stsByte, enByte, gpeWrite, eventWrite, registerWrite};
 
-// A GPE block's bytes as cells, since a length is a byte: status bytes from 0 on, enable bytes from 256 on.
+// A GPE block's bytes as cells, since a machine has fewer than 256 of each: status bytes from 0 on, enable bytes from 256 on.
 fn gpe_number(s: Settings, b: bool, offset: u64) -> u64
     ensures { λ r. ⌜ r ≡ gpeNumber s b offset ⌝ }
 {

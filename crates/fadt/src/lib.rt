@@ -142,7 +142,8 @@ fn dword_at(table: &[u8], at: u8) -> u32
     )
 }
 
-fn table_short(table: &[u8]) -> bool
+// Line 1 of the table.
+pub fn table_short(table: &[u8]) -> bool
     ensures { λ r. ⌜ r ≡ tableShort (now (table .entry)) ⌝ }
 {
     table.len() < 116
@@ -200,7 +201,7 @@ fn block(table: &[u8], address: u8, length: u8) -> Block
     ensures { λ r. ⌜ r ≡ blockOf (now (table .entry)) address length ⌝ }
 {
     let first = dword_at(table, address) as u64;
-    let n = byte_at(table, length);
+    let n = byte_at(table, length) as u32;
     Block::new(first, n)
 }
 
@@ -209,11 +210,11 @@ fn pm1_block(table: &[u8], address: u8, length: u8) -> Block
     ensures { λ r. ⌜ r ≡ pm1Block (now (table .entry)) address length ⌝ }
 {
     let first = dword_at(table, address) as u64;
-    let n = byte_at(table, length);
+    let n = byte_at(table, length) as u32;
     Block::new(first, length_if(first != 0, n))
 }
 
-fn length_if(present: bool, n: u8) -> u8
+fn length_if(present: bool, n: u32) -> u32
     ensures { λ r. ⌜ r ≡ cond present n 0 ⌝ }
 {
     if present { n } else { 0 }

@@ -51,7 +51,7 @@ fn any_set(bytes: [u8; GPE_BYTES], from: usize) -> bool
 }
 
 // No byte is set past the block's own.
-fn bytes_legal(own: u8, bytes: [u8; GPE_BYTES]) -> bool
+fn bytes_legal(own: u32, bytes: [u8; GPE_BYTES]) -> bool
     ensures { λ r. ⌜ r ≡ bytesLegal own bytes ⌝ }
 {
     !any_set(bytes, own as usize)

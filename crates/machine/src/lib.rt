@@ -13,6 +13,7 @@ pub use lines::sci;
 pub use lines::smi;
 use platform::Block;
 use platform::SetUpAnswer;
+use platform::SetUpRefusal;
 use platform::Settings;
 pub use scalars::Scalars;
 use sleep::SleepTable;
@@ -37,11 +38,9 @@ ghost use Rattle.platform.specs.Blocks.{noBlock};
 ghost use Rattle.machine.specs.PowerOn.{zeroed, powerOn, noSettings, allZero};
 ghost use Rattle.machine.specs.SetUp.{machineFor, setUpOf};
 
+// No padding stands between the fields, and no four neighbours that a restart makes zero: the compiler would keep those packed.
 pub struct Machine {
     pub settings: Settings,
-    // PM1a_STS with PM1b_STS, and PM1a_EN with PM1b_EN; a bit's home says in which block it is read and written
-    pub pm1_sts: u16,
-    pub pm1_en: u16,
     // GPE0_STS, GPE0_EN, GPE1_STS and GPE1_EN; bytes past a block's own are zero
     pub gpe0_sts: [u8; GPE_BYTES],
     pub gpe0_en: [u8; GPE_BYTES],
@@ -49,28 +48,33 @@ pub struct Machine {
     pub gpe1_en: [u8; GPE_BYTES],
     // TMR_VAL, and with TMR_VAL_EXT E_TMR_VAL above it
     pub counter: u32,
-    // hold, document 01's word: ticks in S0 with the power button down since the last press, at most 14,318,180
-    pub hold: u32,
-    // the power button is down
-    pub button: bool,
-    // whether a command waits for the firmware, and its byte; zero where none waits
-    pub command_waits: bool,
-    pub command: u8,
-    // the release flag: GBL_RLS was written, and the firmware has not dropped it
-    pub gbl_rls: bool,
     // SLP_EN was written at A, and B is awaited
     pub armed: bool,
+    // 0 to 5 for S0 to S5
+    pub state: u8,
+    // PM1a_STS with PM1b_STS; a bit's home says in which block it is read and written, here and in pm1_en
+    pub pm1_sts: u16,
+    // hold, document 01's word: ticks in S0 with the power button down since the last press, at most 14,318,180
+    pub hold: u32,
+    // whether a command waits for the firmware
+    pub command_waits: bool,
+    // whether a GPE status bit is set together with its enable; SCI, SMI and completing take it from here and look at no byte
+    pub gpe_pending: bool,
+    // PM1a_EN with PM1b_EN
+    pub pm1_en: u16,
+    // the power button is down
+    pub button: bool,
     // SLP_TYPx of PM1a_CNT and of PM1b_CNT
     pub slp_typ_a: u8,
     pub slp_typ_b: u8,
-    // SCI_EN, BM_RLD, and ARB_DIS of PM2_CNT
-    pub sci_en: bool,
+    // BM_RLD, SCI_EN, and ARB_DIS of PM2_CNT
     pub bm_rld: bool,
+    pub sci_en: bool,
     pub arb_dis: bool,
-    // 0 to 5 for S0 to S5
-    pub state: u8,
-    // whether a GPE status bit is set together with its enable; SCI, SMI and completing take it from here and look at no byte
-    pub gpe_pending: bool,
+    // the command's byte; zero where none waits
+    pub command: u8,
+    // the release flag: GBL_RLS was written, and the firmware has not dropped it
+    pub gbl_rls: bool,
 }
 
 pub struct SetUp {
@@ -174,6 +178,12 @@ pub fn set_up(
 ) -> SetUp
     ensures { λ r. ⌜ r ≡ setUpOf (now (table .entry)) «event_homes» «control_homes» «power_override» pairs ⌝ }
 {
+    // Line 1 first: past it every field is within the table, and is read with no test of its place.
+    if fadt::table_short(table) {
+        let answer = SetUpAnswer::Refused(SetUpRefusal::TableShort);
+        let machine = all_zero();
+        return SetUp { answer, machine };
+    }
     let s = fadt::settings(table, event_homes, control_homes, power_override, pairs);
     let answer = fadt::judge(table, s);
     let machine = machine_for(answer, s);

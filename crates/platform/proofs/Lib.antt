@@ -1,3 +1,4 @@
 pub mod Ports
+pub mod Overlap
 pub mod Answers
 pub mod Legal

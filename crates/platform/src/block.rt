@@ -1,20 +1,20 @@
 // A block of I/O ports.
 ghost use mathlib.Core.Path.{_≡_};
 ghost use Prim.Native.Nat.{_-_, _<_};
-ghost use Rattle.platform.specs.Blocks.{block, present, holds, overlap, portLimit, passesPorts};
+ghost use Rattle.platform.specs.Blocks.{block, present, holds, overlap, passesPorts};
 
 // The ports are 0 to 65,535.
 pub const PORTS: u64 = 65536;
 
-// Its first port and how many it has; absent where the address is zero.
+// Its first port and how many it has; absent where the address is zero. A length of 32 bits: padding of 7 bytes makes each copy dear.
 pub struct Block {
     pub address: u64,
-    pub length: u8,
+    pub length: u32,
 }
 
 impl Block {
     // Every block is made here.
-    pub fn new(address: u64, length: u8) -> Self
+    pub fn new(address: u64, length: u32) -> Self
         ensures { λ r. ⌜ r ≡ block address length ⌝ }
     {
         Block { address, length }
@@ -40,24 +40,24 @@ pub fn holds_port(b: Block, port: u64) -> bool
     is_present(b) & ((b.address <= port) & (offset(b, port) < b.length as u64))
 }
 
+// The lower block has to hold the other's first port; a block above another is present.
 pub fn overlaps(a: Block, b: Block) -> bool
     ensures { λ r. ⌜ r ≡ overlap a b ⌝ }
 {
-    if is_present(a) & is_present(b) {
-        return holds_port(a, b.address) | holds_port(b, a.address);
+    if a.address < b.address {
+        return is_present(a) & (b.address - a.address < a.length as u64);
     }
-    false
+    if b.address < a.address {
+        return is_present(b) & (a.address - b.address < b.length as u64);
+    }
+    is_present(a) & ((a.length != 0) | (b.length != 0))
 }
 
 pub fn passes_ports(b: Block) -> bool
     ensures { λ r. ⌜ r ≡ passesPorts b ⌝ }
 {
-    (PORTS < b.address) | (room(b.address) < b.length as u64)
-}
-
-// How many ports there are from this one on.
-fn room(port: u64) -> u64
-    ensures { λ r. ⌜ r ≡ portLimit - port ⌝ }
-{
-    bits::past(PORTS, port)
+    if PORTS < b.address {
+        return true;
+    }
+    PORTS - b.address < b.length as u64
 }

@@ -13,10 +13,9 @@ ghost use mathlib.Core.Bool.{_||_};
 ghost use mathlib.Core.Path.{_≡_};
 ghost use Prim.Native.Nat.{_+_, _<_};
 ghost use lib.Dec.{ltb};
-ghost use lib.ListN.{drop};
-ghost use Rattle.lists.specs.Any.{any, anyTwo};
+ghost use Rattle.lists.specs.Any.{any};
 ghost use Rattle.platform.specs.Answer.{refusalNumber, refusalValue, setUpNumber, setUpValue, firstFailing};
-ghost use Rattle.platform.specs.Blocks.{overlap, passesPorts};
+ghost use Rattle.platform.specs.Blocks.{passesPorts};
 ghost use Rattle.platform.specs.Rules.{
   blocksOf,
   hardwareReduced,
@@ -40,7 +39,7 @@ ghost use Rattle.platform.specs.Rules.{
 pub const BLOCKS: usize = 9;
 
 // The longest GPE block.
-pub const GPE_LONGEST: u8 = 16;
+pub const GPE_LONGEST: u32 = 16;
 
 // The lines of the table of setting up, each of which refuses.
 pub enum SetUpRefusal {
@@ -173,7 +172,7 @@ fn hardware_reduced(s: Settings) -> bool
     cells::flag(s.flags, HW_REDUCED_ACPI)
 }
 
-fn wrong_block_length(n: u8, b: Block) -> bool
+fn wrong_block_length(n: u32, b: Block) -> bool
     ensures { λ r. ⌜ r ≡ wrongBlockLength n b ⌝ }
 {
     is_present(b) & (b.length != n)
@@ -254,36 +253,24 @@ fn place_refused(s: Settings) -> bool
         | any_passes_ports(blocks(s))
 }
 
-fn overlaps_later(b: Block, bs: [Block; BLOCKS], from: usize) -> bool
-    ensures { λ r. ⌜ r ≡ any (overlap b) (drop from bs) ⌝ }
+// Both loops stand in one function, since a call would copy the blocks.
+fn overlap_refused(s: Settings) -> bool
+    ensures { λ r. ⌜ r ≡ overlapRefused s ⌝ }
 {
-    let mut j = from;
-    while j < BLOCKS {
-        if overlaps(b, bs[j]) {
-            return true;
-        }
-        j += 1;
-    }
-    false
-}
-
-fn any_overlap(bs: [Block; BLOCKS]) -> bool
-    ensures { λ r. ⌜ r ≡ anyTwo overlap bs ⌝ }
-{
+    let bs = blocks(s);
     let mut i = 0;
     while i < BLOCKS {
-        if overlaps_later(bs[i], bs, i + 1) {
-            return true;
+        let b = bs[i];
+        let mut j = i + 1;
+        while j < BLOCKS {
+            if overlaps(b, bs[j]) {
+                return true;
+            }
+            j += 1;
         }
         i += 1;
     }
     false
-}
-
-fn overlap_refused(s: Settings) -> bool
-    ensures { λ r. ⌜ r ≡ overlapRefused s ⌝ }
-{
-    any_overlap(blocks(s))
 }
 
 pub fn event_count(b: Block) -> u64

@@ -7,11 +7,8 @@ use sleep::SleepTable;
 ghost use mathlib.Core.Path.{_≡_};
 ghost use Rattle.platform.specs.Fitted.{statusCells, enableCells, wideTimer};
 
+// The fields stand by their size, so that there is no padding between them.
 pub struct Settings {
-    // SMI_CMD: the port where the guest writes commands to the firmware
-    pub smi_cmd: u64,
-    pub acpi_enable: u8,
-    pub acpi_disable: u8,
     // PM1a_EVT_BLK to GPE1_BLK, with their lengths
     pub pm1a_evt: Block,
     pub pm1b_evt: Block,
@@ -21,12 +18,16 @@ pub struct Settings {
     pub pm_tmr: Block,
     pub gpe0: Block,
     pub gpe1: Block,
-    // GPE1_BASE: the number of GPE1's first event
-    pub gpe1_base: u8,
+    // SMI_CMD: the port where the guest writes commands to the firmware
+    pub smi_cmd: u64,
     pub flags: u32,
     // a bit set: the event, or the control bit, has its home in block B
     pub event_homes: u16,
     pub control_homes: u16,
+    pub acpi_enable: u8,
+    pub acpi_disable: u8,
+    // GPE1_BASE: the number of GPE1's first event
+    pub gpe1_base: u8,
     // whether the power override is fitted
     pub power_override: bool,
     pub sleep: SleepTable,

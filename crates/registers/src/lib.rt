@@ -199,12 +199,12 @@ pub fn written_bit(offset: u64, written: u32, n: u8) -> bool
 }
 
 // The status bytes of a GPE block, and as many enable bytes after them.
-fn gpe_half(s: Settings, b: bool) -> u8
+fn gpe_half(s: Settings, b: bool) -> u32
     ensures { λ r. ⌜ r ≡ gpeHalf s b ⌝ }
 {
     let gpe0 = s.gpe0;
     let gpe1 = s.gpe1;
-    pick8(b, gpe1.length, gpe0.length) / 2
+    pick32(b, gpe1.length, gpe0.length) / 2
 }
 
 pub fn in_gpe_status(s: Settings, b: bool, offset: u64) -> bool

@@ -44,7 +44,13 @@ fn same_pair(p: [u8; 2], q: [u8; 2], b_control: bool) -> bool
 fn shared(p: [u8; 2], q: [u8; 2], b_control: bool) -> bool
     ensures { λ r. ⌜ r ≡ shared «b_control» p q ⌝ }
 {
-    !absent(p) & (!absent(q) & same_pair(p, q, b_control))
+    if absent(p) {
+        return false;
+    }
+    if absent(q) {
+        return false;
+    }
+    same_pair(p, q, b_control)
 }
 
 fn any_out_of_range(pairs: [[u8; 2]; 6]) -> bool

@@ -96,7 +96,7 @@ valuesOf m = settingsValues (m .settings) ++ machineValues m
 -- Records are named by their places in `valuesOf`, from 0 on. That each field is read at its own place is part of `machine-back`
 -- (`proofs/RoundTrip.antt`): every legal machine comes back.
 
--- record i's value, in as many bits as its field has
+-- record i's value, in as many bits as the record has
 abbrev pub byteIn : List ℕ → ℕ → ℕ
 byteIn vs i = getD vs i 0 % 2 ^ 8
 

@@ -57,14 +57,14 @@ fn slp_typ(v: u64) -> u8
 fn block(address: u64, length: u64) -> Block
     ensures { λ r. ⌜ r ≡ block address (length % 2 ^ 8) ⌝ }
 {
-    Block::new(address, low8(length))
+    Block::new(address, low8(length) as u32)
 }
 
 // An absent PM1 block has no length of its own.
 fn pm1_block(address: u64, length: u64) -> Block
     ensures { λ r. ⌜ r ≡ block address (cond (not (eqb address 0)) (length % 2 ^ 8) 0) ⌝ }
 {
-    Block::new(address, pick8(address != 0, low8(length), 0))
+    Block::new(address, pick8(address != 0, low8(length), 0) as u32)
 }
 
 fn pair(v: u64) -> [u8; 2]

@@ -11,6 +11,9 @@ cast-first c = search needs
 byte-at-requires : tie.Need-byte-at-requires
 byte-at-requires c κs = search needs
 
+cast-n : tie.Need-cast-n
+cast-n c = search needs
+
 new-requires : tie.Need-new-requires
 new-requires c κs = search needs
 
@@ -19,4 +22,4 @@ returns c = simp (c .new .ensures, c .before .byte-at .ensures, c .before .befor
 
 pub block-spec : {M : Type 1} → statement M
 block-spec =
-    tie.close (tie.spec dword-at-requires cast-first byte-at-requires new-requires returns)
+    tie.close (tie.spec dword-at-requires cast-first byte-at-requires cast-n new-requires returns)

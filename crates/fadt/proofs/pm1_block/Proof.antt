@@ -11,6 +11,9 @@ cast-first c = search needs
 byte-at-requires : tie.Need-byte-at-requires
 byte-at-requires c κs = search needs
 
+cast-n : tie.Need-cast-n
+cast-n c = search needs
+
 length-if-requires : tie.Need-length-if-requires
 length-if-requires c κs = search needs
 
@@ -27,6 +30,7 @@ pm1-block-spec =
     dword-at-requires
     cast-first
     byte-at-requires
+    cast-n
     length-if-requires
     new-requires
     returns)

@@ -5,6 +5,9 @@ use Rattle.values.proofs.from.block.Tie as tie
 low8-requires : tie.Need-low8-requires
 low8-requires c κs = search needs
 
+cast-new : tie.Need-cast-new
+cast-new c = search needs
+
 new-requires : tie.Need-new-requires
 new-requires c κs = search needs
 
@@ -12,4 +15,4 @@ returns : tie.Need-returns
 returns c = simp (c .new .ensures, c .before .low8 .ensures)
 
 pub block-spec : {M : Type 1} → statement M
-block-spec = tie.close (tie.spec low8-requires new-requires returns)
+block-spec = tie.close (tie.spec low8-requires cast-new new-requires returns)

@@ -11,29 +11,29 @@ wide8-requires c κs = search needs
 wide8-requires-2 : tie.Need-wide8-requires-2
 wide8-requires-2 c κs = search needs
 
+wide32-requires : tie.Need-wide32-requires
+wide32-requires c κs = search needs
+
+wide32-requires-2 : tie.Need-wide32-requires-2
+wide32-requires-2 c κs = search needs
+
+wide32-requires-3 : tie.Need-wide32-requires-3
+wide32-requires-3 c κs = search needs
+
+wide32-requires-4 : tie.Need-wide32-requires-4
+wide32-requires-4 c κs = search needs
+
+wide32-requires-5 : tie.Need-wide32-requires-5
+wide32-requires-5 c κs = search needs
+
+wide32-requires-6 : tie.Need-wide32-requires-6
+wide32-requires-6 c κs = search needs
+
 wide8-requires-3 : tie.Need-wide8-requires-3
 wide8-requires-3 c κs = search needs
 
-wide8-requires-4 : tie.Need-wide8-requires-4
-wide8-requires-4 c κs = search needs
-
-wide8-requires-5 : tie.Need-wide8-requires-5
-wide8-requires-5 c κs = search needs
-
-wide8-requires-6 : tie.Need-wide8-requires-6
-wide8-requires-6 c κs = search needs
-
-wide8-requires-7 : tie.Need-wide8-requires-7
-wide8-requires-7 c κs = search needs
-
-wide8-requires-8 : tie.Need-wide8-requires-8
-wide8-requires-8 c κs = search needs
-
-wide8-requires-9 : tie.Need-wide8-requires-9
-wide8-requires-9 c κs = search needs
-
-wide32-requires : tie.Need-wide32-requires
-wide32-requires c κs = search needs
+wide32-requires-7 : tie.Need-wide32-requires-7
+wide32-requires-7 c κs = search needs
 
 wide16-requires : tie.Need-wide16-requires
 wide16-requires c κs = search needs
@@ -81,7 +81,7 @@ pair-value-requires-6 : tie.Need-pair-value-requires-6
 pair-value-requires-6 c κs = search needs
 
 returns : tie.Need-returns
-returns c = simp (c .pair-value6 .ensures, c .before .before .pair-value5 .ensures, c .before .before .before .before .pair-value4 .ensures, c .before .before .before .before .before .before .pair-value3 .ensures, c .before .before .before .before .before .before .before .before .pair-value2 .ensures, c .before .before .before .before .before .before .before .before .before .before .pair-value .ensures, c .before .before .before .before .before .before .before .before .before .before .before .before .flag-value .ensures, c .before .before .before .before .before .before .before .before .before .before .before .before .before .wide162 .ensures, c .before .before .before .before .before .before .before .before .before .before .before .before .before .before .wide16 .ensures, c .before .before .before .before .before .before .before .before .before .before .before .before .before .before .before .wide32 .ensures, c .before .before .before .before .before .before .before .before .before .before .before .before .before .before .before .before .wide89 .ensures, c .before .before .before .before .before .before .before .before .before .before .before .before .before .before .before .before .before .wide88 .ensures, c .before .before .before .before .before .before .before .before .before .before .before .before .before .before .before .before .before .before .wide87 .ensures, c .before .before .before .before .before .before .before .before .before .before .before .before .before .before .before .before .before .before .before .wide86 .ensures, c .before .before .before .before .before .before .before .before .before .before .before .before .before .before .before .before .before .before .before .before .wide85 .ensures, c .before .before .before .before .before .before .before .before .before .before .before .before .before .before .before .before .before .before .before .before .before .wide84 .ensures, c .before .before .before .before .before .before .before .before .before .before .before .before .before .before .before .before .before .before .before .before .before .before .wide83 .ensures, c .before .before .before .before .before .before .before .before .before .before .before .before .before .before .before .before .before .before .before .before .before .before .before .wide82 .ensures, c .before .before .before .before .before .before .before .before .before .before .before .before .before .before .before .before .before .before .before .before .before .before .before .before .wide8 .ensures, c .before .before .before .before .before .before .before .before .before .before .before .before .before .before .before .before .before .before .before .before .before .before .before .before .before .pairs .ensures)
+returns c = simp (c .pair-value6 .ensures, c .before .before .pair-value5 .ensures, c .before .before .before .before .pair-value4 .ensures, c .before .before .before .before .before .before .pair-value3 .ensures, c .before .before .before .before .before .before .before .before .pair-value2 .ensures, c .before .before .before .before .before .before .before .before .before .before .pair-value .ensures, c .before .before .before .before .before .before .before .before .before .before .before .before .flag-value .ensures, c .before .before .before .before .before .before .before .before .before .before .before .before .before .wide162 .ensures, c .before .before .before .before .before .before .before .before .before .before .before .before .before .before .wide16 .ensures, c .before .before .before .before .before .before .before .before .before .before .before .before .before .before .before .wide327 .ensures, c .before .before .before .before .before .before .before .before .before .before .before .before .before .before .before .before .wide83 .ensures, c .before .before .before .before .before .before .before .before .before .before .before .before .before .before .before .before .before .wide326 .ensures, c .before .before .before .before .before .before .before .before .before .before .before .before .before .before .before .before .before .before .wide325 .ensures, c .before .before .before .before .before .before .before .before .before .before .before .before .before .before .before .before .before .before .before .wide324 .ensures, c .before .before .before .before .before .before .before .before .before .before .before .before .before .before .before .before .before .before .before .before .wide323 .ensures, c .before .before .before .before .before .before .before .before .before .before .before .before .before .before .before .before .before .before .before .before .before .wide322 .ensures, c .before .before .before .before .before .before .before .before .before .before .before .before .before .before .before .before .before .before .before .before .before .before .wide32 .ensures, c .before .before .before .before .before .before .before .before .before .before .before .before .before .before .before .before .before .before .before .before .before .before .before .wide82 .ensures, c .before .before .before .before .before .before .before .before .before .before .before .before .before .before .before .before .before .before .before .before .before .before .before .before .wide8 .ensures, c .before .before .before .before .before .before .before .before .before .before .before .before .before .before .before .before .before .before .before .before .before .before .before .before .before .pairs .ensures)
 
 pub settings-values-spec : {M : Type 1} → statement M
 settings-values-spec =
@@ -90,14 +90,14 @@ settings-values-spec =
     pairs-requires
     wide8-requires
     wide8-requires-2
-    wide8-requires-3
-    wide8-requires-4
-    wide8-requires-5
-    wide8-requires-6
-    wide8-requires-7
-    wide8-requires-8
-    wide8-requires-9
     wide32-requires
+    wide32-requires-2
+    wide32-requires-3
+    wide32-requires-4
+    wide32-requires-5
+    wide32-requires-6
+    wide8-requires-3
+    wide32-requires-7
     wide16-requires
     wide16-requires-2
     flag-value-requires
