@@ -113,13 +113,21 @@ fn with_arb_dis(m: Machine, arb_dis: bool) -> Scalars
 fn sts_array(b: bool) -> GpeArray
     ensures { λ r. ⌜ r ≡ stsArray b ⌝ }
 {
-    if b { GpeArray::Gpe1Sts } else { GpeArray::Gpe0Sts }
+    if b {
+        GpeArray::Gpe1Sts
+    } else {
+        GpeArray::Gpe0Sts
+    }
 }
 
 fn en_array(b: bool) -> GpeArray
     ensures { λ r. ⌜ r ≡ enArray b ⌝ }
 {
-    if b { GpeArray::Gpe1En } else { GpeArray::Gpe0En }
+    if b {
+        GpeArray::Gpe1En
+    } else {
+        GpeArray::Gpe0En
+    }
 }
 
 fn sts_byte(m: Machine, b: bool, offset: u64, written: u32) -> GpeStore
@@ -203,7 +211,11 @@ pub(crate) fn write_cells(m: Machine, r: Register, width: u32, offset: u64, writ
             }
             model::done(0, latch(m, registers::low_byte(written)), NextState::Same)
         }
-        Register::Pm1Evt(b) => model::done(0, event_written(m, b, width, offset, written), NextState::Same),
+        Register::Pm1Evt(b) => model::done(
+            0,
+            event_written(m, b, width, offset, written),
+            NextState::Same,
+        ),
         Register::Pm1Cnt(b) => {
             let bytes = match offset {
                 0 => Bytes { width, offset: 0 },

@@ -136,7 +136,11 @@ fn raise_signal(m: Machine, i: u8, bit: u16) -> Effect
     if in_s5(m) {
         model::unmoved(m, Answer::Done(0))
     } else {
-        model::done(0, raise(m, bit), wakes_if(m, WakeSource::Pm1(i), signal_wakes(m, bit)))
+        model::done(
+            0,
+            raise(m, bit),
+            wakes_if(m, WakeSource::Pm1(i), signal_wakes(m, bit)),
+        )
     }
 }
 

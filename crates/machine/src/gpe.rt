@@ -55,7 +55,12 @@ fn with_byte(mut bytes: [u8; GPE_BYTES], place: u64, byte: u8) -> [u8; GPE_BYTES
 }
 
 // Whether some general status bit, of GPE0 or of GPE1, is set together with its enable. It looks at every byte, with no way out before the last.
-fn any_pending(sts0: [u8; GPE_BYTES], en0: [u8; GPE_BYTES], sts1: [u8; GPE_BYTES], en1: [u8; GPE_BYTES]) -> bool
+fn any_pending(
+    sts0: [u8; GPE_BYTES],
+    en0: [u8; GPE_BYTES],
+    sts1: [u8; GPE_BYTES],
+    en1: [u8; GPE_BYTES],
+) -> bool
     ensures { λ r. ⌜ r ≡ (anyEnabled sts0 en0 || anyEnabled sts1 en1) ⌝ }
 {
     let mut found: u8 = 0;
@@ -141,7 +146,7 @@ impl Machine {
         if walks { next.walk_gpe() } else { next }
     }
 
-    pub fn store(self, s: GpeStore) -> Machine
+    pub(crate) fn store(self, s: GpeStore) -> Machine
         ensures { λ r. ⌜ r ≡ stored self s ⌝ }
     {
         let array = s.array;

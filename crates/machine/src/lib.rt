@@ -41,11 +41,6 @@ ghost use Rattle.machine.specs.SetUp.{machineFor, setUpOf};
 // No padding stands between the fields, and no four neighbours that a restart makes zero: the compiler would keep those packed.
 pub struct Machine {
     pub settings: Settings,
-    // GPE0_STS, GPE0_EN, GPE1_STS and GPE1_EN; bytes past a block's own are zero
-    pub gpe0_sts: [u8; GPE_BYTES],
-    pub gpe0_en: [u8; GPE_BYTES],
-    pub gpe1_sts: [u8; GPE_BYTES],
-    pub gpe1_en: [u8; GPE_BYTES],
     // TMR_VAL, and with TMR_VAL_EXT E_TMR_VAL above it
     pub counter: u32,
     // SLP_EN was written at A, and B is awaited
@@ -75,6 +70,11 @@ pub struct Machine {
     pub command: u8,
     // the release flag: GBL_RLS was written, and the firmware has not dropped it
     pub gbl_rls: bool,
+    // GPE0_STS, GPE0_EN, GPE1_STS and GPE1_EN; bytes past a block's own are zero
+    pub gpe0_sts: [u8; GPE_BYTES],
+    pub gpe0_en: [u8; GPE_BYTES],
+    pub gpe1_sts: [u8; GPE_BYTES],
+    pub gpe1_en: [u8; GPE_BYTES],
 }
 
 pub struct SetUp {

@@ -50,7 +50,7 @@ impl Machine {
         }
     }
 
-    pub fn with_scalars(mut self, x: Scalars) -> Machine
+    pub(crate) fn with_scalars(mut self, x: Scalars) -> Machine
         ensures { λ r. ⌜ r ≡ withScalars self x ⌝ }
     {
         self.counter = x.counter;

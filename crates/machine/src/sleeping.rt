@@ -1,6 +1,6 @@
 // Sleep and wake.
-use crate::gpe::GPE_BYTES;
 use crate::Machine;
+use crate::gpe::GPE_BYTES;
 use crate::status::PWRBTN;
 use crate::status::RTC;
 use crate::status::SLPBTN;
@@ -139,7 +139,7 @@ impl Machine {
         }
     }
 
-    pub fn go_on(self, next: NextState) -> Machine
+    pub(crate) fn go_on(self, next: NextState) -> Machine
         ensures { λ r. ⌜ r ≡ inNextState next self ⌝ }
     {
         match next {

@@ -4,8 +4,6 @@ mod refusals;
 
 pub use map::walk;
 pub use refusals::allowed;
-pub use refusals::command_lost;
 pub use refusals::data_too_wide;
-pub use refusals::is_timer;
 pub use refusals::leads_nowhere;
 pub use refusals::wrong_width;

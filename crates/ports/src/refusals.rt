@@ -1,9 +1,8 @@
 // Which accesses are refused: a test for each line of the table.
 use bits::pick64;
-use machine::Machine;
 use model::Register;
 ghost use mathlib.Core.Path.{_≡_};
-ghost use Rattle.model.specs.Bus.{wrongWidth, dataTooWide, leadsNowhere, allowed, isTimer, commandLost};
+ghost use Rattle.model.specs.Bus.{wrongWidth, dataTooWide, leadsNowhere, allowed};
 
 // 21: the width is not 1, 2 or 4.
 pub fn wrong_width(width: u32) -> bool
@@ -47,35 +46,5 @@ pub fn allowed(r: Register, width: u32, offset: u64) -> bool
         Register::PmTmr => (width == 4) & (offset == 0),
         Register::Gpe(_) => width == 1,
         Register::Nowhere => true,
-    }
-}
-
-// 25, of a write.
-pub fn is_timer(r: Register) -> bool
-    ensures { λ result. ⌜ result ≡ isTimer r ⌝ }
-{
-    match r {
-        Register::SmiCmd => false,
-        Register::Pm1Evt(_) => false,
-        Register::Pm1Cnt(_) => false,
-        Register::Pm2Cnt => false,
-        Register::PmTmr => true,
-        Register::Gpe(_) => false,
-        Register::Nowhere => false,
-    }
-}
-
-// 26, of a write: a command waits already.
-pub fn command_lost(m: Machine, r: Register) -> bool
-    ensures { λ result. ⌜ result ≡ commandLost m r ⌝ }
-{
-    match r {
-        Register::SmiCmd => m.command_waits,
-        Register::Pm1Evt(_) => false,
-        Register::Pm1Cnt(_) => false,
-        Register::Pm2Cnt => false,
-        Register::PmTmr => false,
-        Register::Gpe(_) => false,
-        Register::Nowhere => false,
     }
 }
