@@ -23,7 +23,7 @@ fn last(b: Block) -> u64 {
     wrapping_sub_u64(wrapping_add_u64(b.address, length(b)), 1)
 }
 
-pub(crate) fn name(i: usize) {
+fn name(i: usize) {
     match i {
         0 => say(b"SMI_CMD"),
         1 => say(b"PM1a_EVT_BLK"),
@@ -71,15 +71,16 @@ fn length_is_wrong(i: usize, b: Block) -> bool {
     n != due_length(i)
 }
 
-// Lines 6, 7 and 8: the first block that the line fails for, and why.
-pub(crate) fn first_wrong(line: u8, blocks: [Block; BLOCKS]) {
+// Lines 6, 7 and 8: says the first block that the line fails for, and why; whether there is one.
+pub(crate) fn first_wrong(line: u8, blocks: [Block; BLOCKS]) -> bool {
     let mut i = 0;
     while i < BLOCKS {
         if wrong(line, i, blocks[i], blocks) {
-            return;
+            return true;
         }
         i += 1;
     }
+    false
 }
 
 // Whether the line fails for block i, which is then said.
@@ -95,7 +96,6 @@ fn tell_length(i: usize, b: Block) -> bool {
     if !length_is_wrong(i, b) {
         return false;
     }
-    say(b": ");
     name(i);
     say(b" is ");
     port(b.address);
@@ -135,13 +135,11 @@ fn passes(b: Block) -> bool {
 
 fn tell_place(i: usize, b: Block) -> bool {
     if ((i == 1) | (i == 3)) & !is_present(b) {
-        say(b": ");
         name(i);
-        say(b" is 0");
+        say(b" is 0, and this block has to be there");
         return true;
     }
     if misaligned(i, b.address) {
-        say(b": ");
         name(i);
         say(b" is ");
         port(b.address);
@@ -150,15 +148,15 @@ fn tell_place(i: usize, b: Block) -> bool {
         return true;
     }
     if passes(b) {
-        say(b": ");
         named_ports(i, b);
+        say(b", and the last port is FFFF");
         return true;
     }
     false
 }
 
 // A present block and its ports.
-pub(crate) fn named_ports(i: usize, b: Block) {
+fn named_ports(i: usize, b: Block) {
     name(i);
     say(b" has ");
     if length(b) < 2 {
@@ -178,15 +176,19 @@ fn tell_overlap(i: usize, a: Block, blocks: [Block; BLOCKS]) -> bool {
     while j < BLOCKS {
         let b = blocks[j];
         if (i < j) & share(a, b) {
-            say(b": ");
-            named_ports(i, a);
-            say(b", ");
-            named_ports(j, b);
+            tell_two(i, a, j, b);
             return true;
         }
         j += 1;
     }
     false
+}
+
+fn tell_two(i: usize, a: Block, j: usize, b: Block) {
+    named_ports(i, a);
+    say(b", and ");
+    named_ports(j, b);
+    say(b": they overlap");
 }
 
 fn share(a: Block, b: Block) -> bool {
@@ -197,16 +199,17 @@ fn share(a: Block, b: Block) -> bool {
 pub(crate) fn wrong_numbers(base: u8, gpe0: Block, gpe1: Block) {
     let first = wide(base);
     let before = platform::event_count(gpe0);
-    let own = platform::event_count(gpe1);
-    say(b": GPE1_BASE is ");
-    count(first);
+    let past = wrapping_add_u64(first, platform::event_count(gpe1));
     if first < before {
-        say(b", and GPE0 has ");
-        count(before);
-        say(b" events");
+        say(b"GPE1_BASE is ");
+        port(first);
+        say(b", and GPE0 has events 0 to ");
+        port(wrapping_sub_u64(before, 1));
     } else {
-        say(b", and GPE1 has ");
-        count(own);
-        say(b" events");
+        say(b"GPE1 has events ");
+        port(first);
+        say(b" to ");
+        port(wrapping_sub_u64(past, 1));
+        say(b", and the last event is FF");
     }
 }

@@ -27,6 +27,12 @@ const CR: u8 = 13;
 
 const SPACE: u8 = 32;
 
+const HASH: u8 = 35;
+
+const SLASH: u8 = 47;
+
+const SEMICOLON: u8 = 59;
+
 // The start of a line, counted from 1.
 fn line_start(source: &[u8], line: usize) -> usize {
     let mut start = 0;
@@ -53,9 +59,7 @@ pub(crate) fn platform_unread(source: &[u8]) {
     }
     say(b", field 1: ");
     shown(field(line, 0));
-    say(
-        b" does not begin a platform line, which a script begins with (platform EVENT_HOMES CONTROL_HOMES OVERRIDE S0 S1 S2 S3 S4 S5)\n",
-    );
+    say(b" stands where platform is due (the first line is the platform line)\n");
 }
 
 // after_platform: the script has a platform line, its first.
@@ -102,6 +106,17 @@ fn general(source: &[u8], start: usize) -> bool {
         );
         return true;
     }
+    let first = byte(line, 0);
+    if (first == HASH) | (first == SLASH) | (first == SEMICOLON) {
+        say(b": it begins with ");
+        shown(&[first]);
+        say(b" (a script has no comments)\n");
+        return true;
+    }
+    if first == TAB {
+        say(b", field 1: it is empty (a tab stands at the line's start)\n");
+        return true;
+    }
     if ends_in_cr(line) {
         say(b": CR stands at its end (sed -i 's/\\r$//' FILE takes it out of every line)\n");
         return true;
@@ -120,9 +135,11 @@ fn begins(text: &[u8], start: &[u8]) -> bool {
     same(front(text, start.len()), start)
 }
 
+// CR at the end, and at no other place.
 fn ends_in_cr(line: &[u8]) -> bool {
-    if 0 < line.len() {
-        return byte(line, line.len() - 1) == CR;
+    let at = text::part_end(line, 0, CR);
+    if at < line.len() {
+        return line.len() - at == 1;
     }
     false
 }
@@ -163,15 +180,11 @@ fn step(line: &[u8], forms: &[u8]) {
     let word = field(line, 0);
     let near = part(forms, LF, nearest(forms, word));
     let known = part(near, SPACE, 0);
-    if same(known, word) & (0 < word.len()) {
+    if same(known, word) {
         against(line, near);
         return;
     }
     say(b", field 1: ");
-    if word.len() == 0 {
-        say(b"it is empty (a tab stands at the line's start)\n");
-        return;
-    }
     shown(word);
     say(b" is no word");
     if same(word, b"read") {
@@ -230,6 +243,10 @@ fn against(line: &[u8], form: &[u8]) {
     if due < there {
         say(b", field ");
         field_number(due);
+        if field(line, due).len() == 0 {
+            say(b": it is empty (a tab too many)\n");
+            return;
+        }
         say(b": a field too many (");
         say(form);
         say(b")\n");

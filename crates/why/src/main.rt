@@ -85,7 +85,6 @@ fn tell(answer: SessionAnswer, table: &[u8], source: &[u8]) {
             say(b"setting up is refused: ");
             count(platform::refusal_number(refusal) as u64);
             say(b", ");
-            words::refusal(refusal);
             table::closer(refusal, table, text::line_from(source, 0));
         }
         SessionAnswer::Line(line) => line::step_unread(source, line, true),

@@ -59,6 +59,8 @@ pub(crate) fn port(n: u64) {
         3
     } else if n < 0x10000 {
         4
+    } else if n < 0x100000 {
+        5
     } else if n < 0x100000000 {
         8
     } else {

@@ -7,6 +7,7 @@ use crate::say::hex;
 use crate::say::say;
 use crate::say::shown;
 use crate::say::wide;
+use crate::words;
 use platform::SetUpRefusal;
 use platform::Settings;
 use platform::is_present;
@@ -22,6 +23,7 @@ const EVENT_BITS: u16 = 0xC731;
 
 const CONTROL_BITS: u16 = 0x0007;
 
+// The line's own words stand where the closer look finds nothing, or needs them.
 pub(crate) fn closer(refusal: SetUpRefusal, table: &[u8], line: &[u8]) {
     let settings = fadt::settings(
         table,
@@ -30,36 +32,42 @@ pub(crate) fn closer(refusal: SetUpRefusal, table: &[u8], line: &[u8]) {
         script::power_override(line),
         script::pairs(line),
     );
-    match refusal {
-        SetUpRefusal::TableShort => no_table(table, 1),
-        SetUpRefusal::NoSignature => no_table(table, 2),
-        SetUpRefusal::WrongLength => no_table(table, 3),
-        SetUpRefusal::WrongSum => no_table(table, 4),
-        SetUpRefusal::HardwareReduced => {}
-        SetUpRefusal::BlockLength => blocks::first_wrong(6, platform::blocks(settings)),
-        SetUpRefusal::BlockPlace => blocks::first_wrong(7, platform::blocks(settings)),
-        SetUpRefusal::BlocksOverlap => blocks::first_wrong(8, platform::blocks(settings)),
-        SetUpRefusal::Gpe1Numbers => {
-            let gpe0 = settings.gpe0;
-            let gpe1 = settings.gpe1;
-            blocks::wrong_numbers(settings.gpe1_base, gpe0, gpe1);
-        }
-        SetUpRefusal::SameCommands => {
-            say(b": both are ");
-            hex(wide(settings.acpi_enable), 2);
-        }
-        SetUpRefusal::WrongHomes => homes(settings),
-        SetUpRefusal::SleepPairs => {
-            let cnt_b = settings.pm1b_cnt;
-            pairs(script::pairs(line), is_present(cnt_b));
-        }
+    let number = platform::refusal_number(refusal);
+    if number < 6 {
+        words::refusal(refusal);
+        no_table(table, number);
+    } else if !in_settings(number, settings, script::pairs(line)) {
+        words::refusal(refusal);
     }
     say(b"\n");
 }
 
-// Lines 1 to 4.
+// Whether something was found, and said.
+fn in_settings(number: u8, s: Settings, pairs: [[u8; 2]; 6]) -> bool {
+    match number {
+        9 => {
+            let gpe0 = s.gpe0;
+            let gpe1 = s.gpe1;
+            blocks::wrong_numbers(s.gpe1_base, gpe0, gpe1);
+            true
+        }
+        10 => {
+            say(b"ACPI_ENABLE and ACPI_DISABLE are both ");
+            hex(wide(s.acpi_enable), 2);
+            true
+        }
+        11 => homes(s),
+        12 => {
+            let cnt_b = s.pm1b_cnt;
+            wrong_pairs(pairs, is_present(cnt_b))
+        }
+        _ => blocks::first_wrong(number, platform::blocks(s)),
+    }
+}
+
+// Lines 1 to 4; line 5 needs no more words.
 fn no_table(table: &[u8], number: u8) {
-    if is_text(table) {
+    if (number < 5) & is_text(table) {
         say(b": platform.fadt is text, and a table is binary");
         return;
     }
@@ -78,7 +86,8 @@ fn no_table(table: &[u8], number: u8) {
             say(b", and platform.fadt has ");
             count(table.len() as u64);
         }
-        _ => sum(table),
+        4 => sum(table),
+        _ => {}
     }
 }
 
@@ -137,30 +146,32 @@ fn is_letter(byte: u8) -> bool {
 }
 
 // Line 11.
-fn homes(s: Settings) {
+fn homes(s: Settings) -> bool {
     let evt_b = s.pm1b_evt;
     let cnt_b = s.pm1b_cnt;
     if outside(EVENT_BITS, s.event_homes) != 0 {
-        say(b": EVENT_HOMES is ");
+        say(b"EVENT_HOMES is ");
         strays(EVENT_BITS, s.event_homes);
-        return;
+        return true;
     }
     if outside(CONTROL_BITS, s.control_homes) != 0 {
-        say(b": CONTROL_HOMES is ");
+        say(b"CONTROL_HOMES is ");
         strays(CONTROL_BITS, s.control_homes);
-        return;
+        return true;
     }
     if !is_present(evt_b) & (s.event_homes != 0) {
-        say(b": EVENT_HOMES is ");
+        say(b"EVENT_HOMES is ");
         mask(s.event_homes);
-        say(b", and PM1b_EVT_BLK is 0");
-        return;
+        say(b", and without PM1b_EVT_BLK it is 0");
+        return true;
     }
     if !is_present(cnt_b) & (s.control_homes != 0) {
-        say(b": CONTROL_HOMES is ");
+        say(b"CONTROL_HOMES is ");
         mask(s.control_homes);
-        say(b", and PM1b_CNT_BLK is 0");
+        say(b", and without PM1b_CNT_BLK it is 0");
+        return true;
     }
+    false
 }
 
 fn outside(known: u16, homes: u16) -> u16 {
@@ -180,10 +191,20 @@ fn strays(known: u16, homes: u16) {
 }
 
 // Line 12: the first state that has a number above 7, or else the first two that share theirs.
-fn pairs(pairs: [[u8; 2]; 6], b_control: bool) {
-    if !first_above(pairs) {
-        first_shared(pairs, b_control);
+fn wrong_pairs(pairs: [[u8; 2]; 6], b_control: bool) -> bool {
+    if first_above(pairs) {
+        say(b", and no SLP_TYP is above 7");
+        return true;
     }
+    if first_shared(pairs, b_control) {
+        if b_control {
+            say(b", the same pair");
+        } else {
+            say(b", and without PM1b_CNT_BLK the first digits tell states apart");
+        }
+        return true;
+    }
+    false
 }
 
 fn first_above(pairs: [[u8; 2]; 6]) -> bool {
@@ -191,9 +212,7 @@ fn first_above(pairs: [[u8; 2]; 6]) -> bool {
     while i < 6 {
         let p = pairs[i];
         if above(p) {
-            say(b": ");
             state(i, p);
-            say(b", and 7 is the most");
             return true;
         }
         i += 1;
@@ -214,14 +233,15 @@ fn state(i: usize, p: [u8; 2]) {
     hex(wide(p[1]), 1);
 }
 
-fn first_shared(pairs: [[u8; 2]; 6], b_control: bool) {
+fn first_shared(pairs: [[u8; 2]; 6], b_control: bool) -> bool {
     let mut i = 0;
     while i < 6 {
         if shared_later(i, pairs[i], pairs, b_control) {
-            return;
+            return true;
         }
         i += 1;
     }
+    false
 }
 
 // Whether state i shares its pair with a later one, which is then said.
@@ -230,18 +250,18 @@ fn shared_later(i: usize, p: [u8; 2], pairs: [[u8; 2]; 6], b_control: bool) -> b
     while j < 6 {
         let q = pairs[j];
         if (i < j) & share(p, q, b_control) {
-            say(b": ");
-            state(i, p);
-            say(b" and ");
-            state(j, q);
-            if !b_control {
-                say(b" (without PM1b_CNT_BLK the first digits tell states apart)");
-            }
+            two_states(i, p, j, q);
             return true;
         }
         j += 1;
     }
     false
+}
+
+fn two_states(i: usize, p: [u8; 2], j: usize, q: [u8; 2]) {
+    state(i, p);
+    say(b" and ");
+    state(j, q);
 }
 
 fn share(p: [u8; 2], q: [u8; 2], b_control: bool) -> bool {

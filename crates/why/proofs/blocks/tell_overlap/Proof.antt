@@ -5,10 +5,10 @@ use Rattle.why.proofs.blocks.tell_overlap.Statement.{statement}
 use Rattle.why.proofs.blocks.tell_overlap.Tie as tie
 
 abbrev Inv-loop : tie.InvT-loop
-Inv-loop i a blocks j₀ t7 t8 j = j ≤ 9
+Inv-loop i a blocks j₀ j = j ≤ 9
 
 abbrev μ-loop : tie.MeasureT-loop
-μ-loop i a blocks j₀ t7 t8 j = 9 - j
+μ-loop i a blocks j₀ j = 9 - j
 
 loop-holds : tie.Need-loop-holds Inv-loop μ-loop
 loop-holds c = omega arith
@@ -22,23 +22,8 @@ array-copy-out-b c = search needs
 share-requires : tie.Need-share-requires Inv-loop μ-loop
 share-requires c κs = search needs
 
-slice-aggregate-say : tie.Need-slice-aggregate-say Inv-loop μ-loop
-slice-aggregate-say c = search needs
-
-say-requires : tie.Need-say-requires Inv-loop μ-loop
-say-requires c κs = search needs
-
-named-ports-requires : tie.Need-named-ports-requires Inv-loop μ-loop
-named-ports-requires c κs = search needs
-
-slice-aggregate-say-2 : tie.Need-slice-aggregate-say-2 Inv-loop μ-loop
-slice-aggregate-say-2 c = search needs
-
-say-requires-2 : tie.Need-say-requires-2 Inv-loop μ-loop
-say-requires-2 c κs = search needs
-
-named-ports-requires-2 : tie.Need-named-ports-requires-2 Inv-loop μ-loop
-named-ports-requires-2 c κs = search needs
+tell-two-requires : tie.Need-tell-two-requires Inv-loop μ-loop
+tell-two-requires c κs = search needs
 
 returns : tie.Need-returns Inv-loop μ-loop
 returns c = search needs
@@ -65,12 +50,7 @@ tell-overlap-spec =
     mul-b
     array-copy-out-b
     share-requires
-    slice-aggregate-say
-    say-requires
-    named-ports-requires
-    slice-aggregate-say-2
-    say-requires-2
-    named-ports-requires-2
+    tell-two-requires
     returns
     add-j
     loop-less

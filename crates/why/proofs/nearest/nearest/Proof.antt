@@ -5,7 +5,7 @@ use Rattle.why.proofs.nearest.nearest.Statement.{statement}
 use Rattle.why.proofs.nearest.nearest.Tie as tie
 
 abbrev Inv-loop : tie.InvT-loop
-Inv-loop forms word lines found₀ least-far₀ k₀ found least-far k = k ≤ k
+Inv-loop forms word lines found₀ least-far₀ k₀ found least-far k = 0 ≤ k
 
 abbrev μ-loop : tie.MeasureT-loop
 μ-loop forms word lines found₀ least-far₀ k₀ found least-far k = lines - k

@@ -5,10 +5,10 @@ use Rattle.why.proofs.table.first_above.Statement.{statement}
 use Rattle.why.proofs.table.first_above.Tie as tie
 
 abbrev Inv-loop : tie.InvT-loop
-Inv-loop pairs i₀ t5 t6 i = i ≤ 6
+Inv-loop pairs i₀ i = i ≤ 6
 
 abbrev μ-loop : tie.MeasureT-loop
-μ-loop pairs i₀ t5 t6 i = 6 - i
+μ-loop pairs i₀ i = 6 - i
 
 loop-holds : tie.Need-loop-holds Inv-loop μ-loop
 loop-holds c = omega arith
@@ -22,20 +22,8 @@ array-copy-out-p c = search needs
 above-requires : tie.Need-above-requires Inv-loop μ-loop
 above-requires c κs = search needs
 
-slice-aggregate-say : tie.Need-slice-aggregate-say Inv-loop μ-loop
-slice-aggregate-say c = search needs
-
-say-requires : tie.Need-say-requires Inv-loop μ-loop
-say-requires c κs = search needs
-
 state-requires : tie.Need-state-requires Inv-loop μ-loop
 state-requires c κs = search needs
-
-slice-aggregate-say-2 : tie.Need-slice-aggregate-say-2 Inv-loop μ-loop
-slice-aggregate-say-2 c = search needs
-
-say-requires-2 : tie.Need-say-requires-2 Inv-loop μ-loop
-say-requires-2 c κs = search needs
 
 returns : tie.Need-returns Inv-loop μ-loop
 returns c = search needs
@@ -62,11 +50,7 @@ first-above-spec =
     mul-p
     array-copy-out-p
     above-requires
-    slice-aggregate-say
-    say-requires
     state-requires
-    slice-aggregate-say-2
-    say-requires-2
     returns
     add-i
     loop-less
