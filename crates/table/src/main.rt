@@ -220,6 +220,7 @@ fn events(b: Block, first: u64) {
         number(first);
         say(b" to ");
         number(wrapping_add_u64(first, one_less(n)));
+        say(b" (hex)");
     }
 }
 

@@ -8,6 +8,7 @@ use crate::say::hex;
 use crate::say::say;
 use crate::say::shown;
 use crate::say::wide;
+use script::Line;
 use session::LIMIT;
 use text::field;
 use text::field_count;
@@ -175,6 +176,15 @@ fn odd(byte: u8) {
     say(b" stands in it (a script is ASCII text)\n");
 }
 
+// A step that is a word alone, also one that the forms do not have.
+fn stands_alone(word: &[u8]) -> bool {
+    let read = script::line_of(word);
+    match read {
+        Line::Step(_) => true,
+        Line::Unread => false,
+    }
+}
+
 // The forms are lines, each with its fields parted by spaces.
 fn step(line: &[u8], forms: &[u8]) {
     let word = field(line, 0);
@@ -182,6 +192,10 @@ fn step(line: &[u8], forms: &[u8]) {
     let known = part(near, SPACE, 0);
     if same(known, word) {
         against(line, near);
+        return;
+    }
+    if stands_alone(word) {
+        against(line, word);
         return;
     }
     say(b", field 1: ");
