@@ -1,6 +1,6 @@
 // The clauses of legality, document 02, a line each; they name the records concerned.
-use crate::count;
-use crate::say;
+use crate::say::count;
+use crate::say::say;
 use crate::words::refusal;
 use legality::Clause;
 
@@ -8,9 +8,10 @@ pub(crate) fn clause(broken: Clause) {
     match broken {
         Clause::Settings(rule) => {
             say(b"the settings break rule ");
-            count(platform::refusal_number(rule) as usize);
+            count(platform::refusal_number(rule) as u64);
             say(b": ");
             refusal(rule);
+            say(b"\n");
         }
         Clause::Status => say(b"PM1a_STS or PM1b_STS has an unfitted or reserved bit\n"),
         Clause::Enables => say(b"PM1a_EN or PM1b_EN has an unfitted or reserved bit\n"),

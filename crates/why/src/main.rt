@@ -1,11 +1,18 @@
 // Says in one line what a session's table and script come to: what is wrong and where, or how many steps there are. Where there is no table but a saved
-// text, the file `state`: what that and the steps come to.
+// text, the file `state`: what that and the steps come to. Which line does not read, and which line of setting up refuses, the proved libraries say; what is
+// said beside it comes from a closer look.
+mod blocks;
 mod clauses;
+mod line;
+mod nearest;
+mod say;
 mod state;
+mod table;
 mod words;
 
 use libc::STDIN_FILENO;
-use libc::STDOUT_FILENO;
+use say::count;
+use say::say;
 use session::LIMIT;
 use session::SessionAnswer;
 ghost use mathlib.Core.Path.{_≡_};
@@ -39,7 +46,7 @@ fn main() {
     // Room is judged last: no room for the listing means that all of it reads.
     let mut listing = [0u8; 1];
     let answer = session::session(&table[..table_length], source, &mut listing);
-    tell(answer, source);
+    tell(answer, &table[..table_length], source);
 }
 
 fn without_table() {
@@ -69,44 +76,19 @@ fn at_end(length: usize) -> bool {
     libc::read(STDIN_FILENO, &mut next) == 0
 }
 
-pub(crate) fn say(text: &[u8]) {
-    io::write_all(STDOUT_FILENO, text);
-}
-
-pub(crate) fn count(n: usize) {
-    io::print_decimal(STDOUT_FILENO, n as u64);
-}
-
-fn tell(answer: SessionAnswer, source: &[u8]) {
+fn tell(answer: SessionAnswer, table: &[u8], source: &[u8]) {
     match answer {
         SessionAnswer::Written(_) => all_is_well(source),
         SessionAnswer::NoRoom => all_is_well(source),
-        SessionAnswer::PlatformLine => {
-            if passes_limit(source, 1) {
-                unread(source, 1);
-            } else {
-                say(b"line 1 does not read: it is no platform line\n");
-            }
-        }
+        SessionAnswer::PlatformLine => line::platform_unread(source),
         SessionAnswer::SetUp(refusal) => {
             say(b"setting up is refused: ");
-            count(platform::refusal_number(refusal) as usize);
+            count(platform::refusal_number(refusal) as u64);
             say(b", ");
-            words::refusal(refusal);
+            table::closer(refusal, table, text::line_from(source, 0));
         }
-        SessionAnswer::Line(line) => unread(source, line),
+        SessionAnswer::Line(line) => line::step_unread(source, line, true),
     }
-}
-
-// A line that is no step, or that is too long.
-pub(crate) fn unread(source: &[u8], line: usize) {
-    say(b"line ");
-    count(line);
-    say(b" does not read");
-    if passes_limit(source, line) {
-        say(b": it passes byte 65,536");
-    }
-    say(b"\n");
 }
 
 // All lines but the platform line are steps.
@@ -114,21 +96,10 @@ fn all_is_well(source: &[u8]) {
     let lines = text::line_count(source);
     let steps = if 0 < lines { lines - 1 } else { 0 };
     say(b"all is well: ");
-    count(steps);
+    count(steps as u64);
     if steps == 1 {
         say(b" step\n");
     } else {
         say(b" steps\n");
     }
-}
-
-// Whether a byte of a line, or its LF, lies past the limit.
-fn passes_limit(source: &[u8], line: usize) -> bool {
-    let mut end = 0;
-    let mut k = 0;
-    while k < line {
-        end = text::next_line(source, end);
-        k += 1;
-    }
-    LIMIT < end
 }

@@ -1,8 +1,8 @@
 // What a saved text, and steps on its machine, come to.
 use crate::clauses::clause;
-use crate::count;
-use crate::say;
-use crate::unread;
+use crate::line::step_unread;
+use crate::say::count;
+use crate::say::say;
 use machine::Machine;
 use saved::ReadAnswer;
 use session::EndAnswer;
@@ -31,7 +31,7 @@ fn tell_steps(m: Machine, text: &[u8], steps: &[u8]) {
     let ended = session::resume_end(m, steps);
     let answer = ended.answer;
     match answer {
-        EndAnswer::Line(line) => unread(steps, line),
+        EndAnswer::Line(line) => step_unread(steps, line, false),
         _ => all_is_well(text, m.state),
     }
 }
@@ -40,7 +40,7 @@ fn all_is_well(text: &[u8], state: u8) {
     say(b"all is well: edition ");
     say(text::field(text::line_from(text, 0), 1));
     say(b", S");
-    count(state as usize);
+    count(state as u64);
     say(b"\n");
 }
 
@@ -53,7 +53,7 @@ fn record(text: &[u8], line: usize) {
 
 fn stray(text: &[u8], line: usize) {
     say(b"42: line ");
-    count(line);
+    count(line as u64);
     say(b": ");
     record(text, line);
     say(
@@ -66,7 +66,7 @@ fn malformed(text: &[u8], line: usize) {
     let mut newest = [0u8; ROOM];
     saved::write(machine::all_zero(), &mut newest);
     say(b"41: line ");
-    count(line);
+    count(line as u64);
     against(text, &newest, line);
 }
 

@@ -1,15 +1,14 @@
--- `why::passes_limit` is safe and ends: the lines counted never pass the line asked for. Assumes nothing.
 use Prim.Native.Nat.{_-_, _≤_}
 use native.Mathlib.Omega.{arith}
 use borrow.Author.Needs.{needs}
-use Rattle.why.proofs.passes_limit.Statement.{statement}
-use Rattle.why.proofs.passes_limit.Tie as tie
+use Rattle.why.proofs.line.line_start.Statement.{statement}
+use Rattle.why.proofs.line.line_start.Tie as tie
 
 abbrev Inv-loop : tie.InvT-loop
-Inv-loop source line end₀ k₀ end k = k ≤ line
+Inv-loop source line start₀ k₀ start k = 1 ≤ k
 
 abbrev μ-loop : tie.MeasureT-loop
-μ-loop source line end₀ k₀ end k = line - k
+μ-loop source line start₀ k₀ start k = line - k
 
 loop-holds : tie.Need-loop-holds Inv-loop μ-loop
 loop-holds c = omega arith
@@ -29,7 +28,7 @@ loop-again c = omega arith
 returns : tie.Need-returns Inv-loop μ-loop
 returns c = search needs
 
-pub passes-limit-spec : {M : Type 1} → statement M
-passes-limit-spec =
+pub line-start-spec : {M : Type 1} → statement M
+line-start-spec =
     tie.close
     (tie.spec Inv-loop μ-loop loop-holds next-line-requires add-k loop-less loop-again returns)
