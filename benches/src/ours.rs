@@ -1,11 +1,13 @@
-//! The proved loops of `crates/speed_steps`, `crates/speed_general`, `crates/speed_session` and `crates/speed_saved`, as
-//! `rt staticlib` exports them. A slice is its address and its length.
+//! The proved loops of `crates/speed_steps`, `crates/speed_general`, `crates/speed_called`, `crates/speed_session` and
+//! `crates/speed_saved`, as `rt staticlib` exports them. A slice is its address and its length.
 
 mod exported {
     extern "C" {
         pub fn speed_run_steps(table: *const u8, table_len: usize, base: u64, row: u32, n: u64) -> u64;
         pub fn speed_run_set_up(table: *const u8, table_len: usize, n: u64) -> u64;
         pub fn speed_run_general(table: *const u8, table_len: usize, base: u64, n: u64) -> u64;
+        pub fn speed_called_steps(table: *const u8, table_len: usize, base: u64, row: u32, n: u64) -> u64;
+        pub fn speed_called_general(table: *const u8, table_len: usize, base: u64, n: u64) -> u64;
         pub fn speed_run_lines(table: *const u8, table_len: usize, enables: u8, n: u64) -> u64;
         pub fn speed_run_session(
             table: *const u8,
@@ -33,6 +35,14 @@ pub fn set_up(table: &[u8], n: u64) -> u64 {
 
 pub fn general(table: &[u8], base: u64, n: u64) -> u64 {
     unsafe { exported::speed_run_general(table.as_ptr(), table.len(), base, n) }
+}
+
+pub fn called_steps(table: &[u8], base: u64, row: u32, n: u64) -> u64 {
+    unsafe { exported::speed_called_steps(table.as_ptr(), table.len(), base, row, n) }
+}
+
+pub fn called_general(table: &[u8], base: u64, n: u64) -> u64 {
+    unsafe { exported::speed_called_general(table.as_ptr(), table.len(), base, n) }
 }
 
 pub fn lines(table: &[u8], enables: u8, n: u64) -> u64 {

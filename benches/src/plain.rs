@@ -4,7 +4,7 @@
 use std::hint::black_box;
 
 use crate::saved;
-use model::{set_up as set_up_machine, Machine, Settings, Step};
+use model::{set_up as set_up_machine, Machine, Settings, Step, GPE_BYTES};
 
 const STATES: [Option<(u8, u8)>; 6] = [Some((0, 0)), None, None, Some((5, 2)), None, Some((7, 0))];
 
@@ -146,8 +146,20 @@ fn prepare(machine: &mut Machine) {
     machine.sci_en = true;
 }
 
+/// A step put into the loop.
 #[inline(never)]
 pub fn steps(table: &[u8], base: u64, row: u32, n: u64) -> u64 {
+    steps_by(table, base, row, n, Run::done)
+}
+
+/// A step called as a function, as a host calls it.
+#[inline(never)]
+pub fn called_steps(table: &[u8], base: u64, row: u32, n: u64) -> u64 {
+    let done: fn(&mut Run, &Step) = black_box(Run::done);
+    steps_by(table, base, row, n, done)
+}
+
+fn steps_by(table: &[u8], base: u64, row: u32, n: u64, done: impl Fn(&mut Run, &Step)) -> u64 {
     let p = Ports {
         sts_a: base,
         sts_b: base.wrapping_add(0x40),
@@ -161,7 +173,8 @@ pub fn steps(table: &[u8], base: u64, row: u32, n: u64) -> u64 {
     let row = row_of(row);
     let mut k = 0;
     for _ in 0..n {
-        run.done(&step_at(row, k, &p, run.older));
+        let step = step_at(row, k, &p, run.older);
+        done(&mut run, &step);
         run.lines_if(row, k);
         k = if k < last_of(row) { k + 1 } else { 0 };
     }
@@ -181,6 +194,16 @@ fn general_at(k: u64, gpe_sts: u64, gpe_en: u64) -> Step {
 
 #[inline(never)]
 pub fn general(table: &[u8], base: u64, n: u64) -> u64 {
+    general_by(table, base, n, Run::done)
+}
+
+#[inline(never)]
+pub fn called_general(table: &[u8], base: u64, n: u64) -> u64 {
+    let done: fn(&mut Run, &Step) = black_box(Run::done);
+    general_by(table, base, n, done)
+}
+
+fn general_by(table: &[u8], base: u64, n: u64, done: impl Fn(&mut Run, &Step)) -> u64 {
     let (gpe_sts, gpe_en) = (base.wrapping_add(0x20), base.wrapping_add(0x22));
     let Ok(machine) = set_up_machine(table, &settings(false)) else {
         return 0;
@@ -188,7 +211,7 @@ pub fn general(table: &[u8], base: u64, n: u64) -> u64 {
     let mut run = Run::prepared(machine);
     let mut k = 0;
     for _ in 0..n {
-        run.done(&general_at(k, gpe_sts, gpe_en));
+        done(&mut run, &general_at(k, gpe_sts, gpe_en));
         if k == 3 {
             run.lines();
         }
@@ -204,12 +227,12 @@ pub fn lines(table: &[u8], enables: u8, n: u64) -> u64 {
     };
     let mut run = Run::prepared(machine);
     for block in &mut run.machine.gpe {
-        block.enable = [enables; 8];
+        block.enable = [enables; GPE_BYTES];
     }
     for _ in 0..n {
         run.machine.status = run.sum as u16;
-        run.machine.gpe[0].status = [run.sum as u8; 8];
-        run.machine.gpe[1].status = [(run.sum >> 8) as u8; 8];
+        run.machine.gpe[0].status = [run.sum as u8; GPE_BYTES];
+        run.machine.gpe[1].status = [(run.sum >> 8) as u8; GPE_BYTES];
         run.lines();
         run.sum = run.sum.wrapping_add(257);
     }

@@ -2,7 +2,7 @@
 //! buffer. `tests/model` has the cells of a register and what is legal.
 
 use model::saved::{control, Records, MALFORMED, NO_EDITION};
-use model::{Gpe, Machine, A, B};
+use model::{Gpe, Machine, A, B, GPE_BYTES};
 
 const FIRST: &[u8] = b"edition\t1";
 
@@ -249,9 +249,9 @@ impl<'a> Reader<'a> {
         Ok(value)
     }
 
-    fn bytes(&mut self, name: &str, own: usize) -> Result<[u8; 8], u8> {
+    fn bytes(&mut self, name: &str, own: usize) -> Result<[u8; GPE_BYTES], u8> {
         self.text(name.as_bytes())?;
-        let mut bytes = [0; 8];
+        let mut bytes = [0; GPE_BYTES];
         for byte in &mut bytes[..own] {
             *byte = self.hex(2)? as u8;
         }

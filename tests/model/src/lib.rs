@@ -24,11 +24,14 @@ pub use ticks::HOLD_LIMIT;
 pub const A: usize = 0;
 pub const B: usize = 1;
 
-/// One GPE block: as many status as enable bytes; of the eight each, half the block's length is used.
+/// The most status bytes, and the most enable bytes, of a GPE block.
+pub const GPE_BYTES: usize = 8;
+
+/// One GPE block: as many status as enable bytes; of each, half the block's length is used.
 #[derive(Clone, Copy, Debug, Default, PartialEq, Eq)]
 pub struct Gpe {
-    pub status: [u8; 8],
-    pub enable: [u8; 8],
+    pub status: [u8; GPE_BYTES],
+    pub enable: [u8; GPE_BYTES],
 }
 
 #[derive(Clone, Debug, PartialEq, Eq)]

@@ -3,7 +3,7 @@
 
 use crate::cells::{BM_RLD, ENABLES, PWRBTN, SCI_EN};
 use crate::set_up::{rules_5_to_12, Fadt};
-use crate::{Block, Gpe, Hardware, Machine, Settings, A, B, HOLD_LIMIT};
+use crate::{Block, Gpe, Hardware, Machine, Settings, A, B, GPE_BYTES, HOLD_LIMIT};
 
 /// Reading's refusals, tried in this order: first line no known edition,
 pub const NO_EDITION: u8 = 40;
@@ -111,7 +111,7 @@ fn gpe_bytes(length: u32) -> usize {
 }
 
 /// Two digits a byte, byte 0 first.
-fn gpe_digits(bytes: &[u8; 8], length: u32) -> String {
+fn gpe_digits(bytes: &[u8; GPE_BYTES], length: u32) -> String {
     bytes[..gpe_bytes(length)].iter().map(|byte| format!("{byte:02X}")).collect()
 }
 
@@ -425,13 +425,13 @@ impl<'a> Lines<'a> {
     }
 
     /// Two digits a byte, as many bytes as the block's length record asks for.
-    fn gpe(&mut self, name: &str, length: u8) -> Result<[u8; 8], u8> {
+    fn gpe(&mut self, name: &str, length: u8) -> Result<[u8; GPE_BYTES], u8> {
         let value = self.value(name)?;
         let bytes = gpe_bytes(length.into());
         if value.len() != 2 * bytes {
             return Err(MALFORMED);
         }
-        let mut gpe = [0; 8];
+        let mut gpe = [0; GPE_BYTES];
         for at in 0..bytes {
             gpe[at] = number(&value[2 * at..2 * at + 2], 2)? as u8;
         }

@@ -4,8 +4,8 @@ use std::collections::HashMap;
 
 use model::saved::{self, Broken, CLAUSES};
 use model::{
-    read_script, set_up, set_up_answer, Gpe, Hardware, Machine, Step, A, B, GBL_RLS, HOLD_LIMIT, LIMIT, PCIEXP_WAKE,
-    PWRBTN, RTC, SLPBTN, SLP_EN, TMR,
+    read_script, set_up, set_up_answer, Gpe, Hardware, Machine, Step, A, B, GBL_RLS, GPE_BYTES, HOLD_LIMIT, LIMIT,
+    PCIEXP_WAKE, PWRBTN, RTC, SLPBTN, SLP_EN, TMR,
 };
 
 use crate::carried::Cut;
@@ -322,7 +322,7 @@ impl Coverage {
         let both = |block: usize| machine.status & visible[block] != 0 && machine.enable & visible[block] != 0;
         self.count_if(both(A), "saved: status and enables at A");
         self.count_if(both(B), "saved: status and enables at B");
-        let both = |gpe: &Gpe| gpe.status != [0; 8] && gpe.enable != [0; 8];
+        let both = |gpe: &Gpe| gpe.status != [0; GPE_BYTES] && gpe.enable != [0; GPE_BYTES];
         self.count_if(both(&machine.gpe[0]), "saved: status and enables of GPE0");
         self.count_if(both(&machine.gpe[1]), "saved: status and enables of GPE1");
         self.count_if(machine.gpe[0].event(), "saved: one of GPE0 pending");

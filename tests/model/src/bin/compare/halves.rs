@@ -174,7 +174,7 @@ fn write_back(machine: &Machine, steps: &[Step]) -> Result<u64, String> {
         if gap_step(step) {
             let mut quiet = machine.clone();
             quiet.status = 0;
-            quiet.gpe.iter_mut().for_each(|gpe| gpe.status = [0; 8]);
+            quiet.gpe.iter_mut().for_each(|gpe| gpe.status = [0; model::GPE_BYTES]);
             quiet.step(step);
             raised |= quiet.status;
             for (sum, gpe) in raised_gpe.iter_mut().zip(quiet.gpe) {
