@@ -22,21 +22,60 @@ use model::Effect;
 use model::Event;
 use timer::ticks;
 ghost use mathlib.Core.Path.{_≡_};
+ghost use Rattle.events.specs.Kinds.{kindOf};
 ghost use Rattle.model.specs.Effect.{effectOf};
 ghost use Rattle.model.specs.declared.Step.the-variants as step;
+
+// A PM1 status bit: its number, and the bit at its place in the register.
+struct StatusBit {
+    number: u8,
+    mask: u16,
+}
+
+// The events by kind: those of a kind go by one rule, each with its own bit, so that the rule has one caller.
+enum EventKind {
+    Press,
+    Release,
+    Signal(StatusBit),
+    PcieWake,
+    Notice(StatusBit),
+    General(u32),
+    Ticks(u32),
+}
+
+fn status_bit(number: u8, mask: u16) -> StatusBit
+    ensures { λ r. ⌜ r ≡ record { number = number; mask = mask } ⌝ }
+{
+    StatusBit { number, mask }
+}
+
+fn kind_of(e: Event) -> EventKind
+    ensures { λ r. ⌜ r ≡ kindOf e ⌝ }
+{
+    match e {
+        Event::Press => EventKind::Press,
+        Event::Release => EventKind::Release,
+        Event::SleepPress => EventKind::Signal(status_bit(SLPBTN_STS, SLPBTN)),
+        Event::Alarm => EventKind::Signal(status_bit(RTC_STS, RTC)),
+        Event::PcieWake => EventKind::PcieWake,
+        Event::BusMaster => EventKind::Notice(status_bit(BM_STS, BM)),
+        Event::Unlock => EventKind::Notice(status_bit(GBL_STS, GBL)),
+        Event::General(k) => EventKind::General(k),
+        Event::Ticks(n) => EventKind::Ticks(n),
+    }
+}
 
 pub fn event(m: Machine, e: Event) -> Effect
     ensures { λ r. ⌜ r ≡ effectOf m (step.Event e) ⌝ }
 {
-    match e {
-        Event::Press => press(m),
-        Event::Release => release(m),
-        Event::SleepPress => signal(m, SLPBTN_STS, SLPBTN),
-        Event::Alarm => signal(m, RTC_STS, RTC),
-        Event::PcieWake => pcie_wake(m),
-        Event::BusMaster => notice(m, BM_STS, BM),
-        Event::Unlock => notice(m, GBL_STS, GBL),
-        Event::General(k) => general(m, k),
-        Event::Ticks(n) => ticks(m, n),
+    let kind = kind_of(e);
+    match kind {
+        EventKind::Press => press(m),
+        EventKind::Release => release(m),
+        EventKind::Signal(bit) => signal(m, bit.number, bit.mask),
+        EventKind::PcieWake => pcie_wake(m),
+        EventKind::Notice(bit) => notice(m, bit.number, bit.mask),
+        EventKind::General(k) => general(m, k),
+        EventKind::Ticks(n) => ticks(m, n),
     }
 }

@@ -38,7 +38,7 @@ ghost use Rattle.platform.specs.Blocks.{noBlock};
 ghost use Rattle.machine.specs.PowerOn.{zeroed, powerOn, noSettings, allZero};
 ghost use Rattle.machine.specs.SetUp.{machineFor, setUpOf};
 
-// No padding stands between the fields, and no four neighbours that a restart makes zero: the compiler would keep those packed.
+// No padding stands between the fields: with it the compiler would copy them as bytes.
 pub struct Machine {
     pub settings: Settings,
     // TMR_VAL, and with TMR_VAL_EXT E_TMR_VAL above it
