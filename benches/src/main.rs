@@ -72,7 +72,7 @@ fn rows(lines: usize) -> Vec<Row> {
         turns: 1_000,
         counted: 1000,
     };
-    vec![
+    let mut rows = vec![
         steps("status read", 0, 1.0),
         steps("write-back", 1, 1.0),
         steps("event", 2, 1.0),
@@ -104,9 +104,12 @@ fn rows(lines: usize) -> Vec<Row> {
             turns: 2,
             counted: 1,
         },
-        text("write a saved text", Work::Write),
-        text("read a saved text", Work::Read),
-    ]
+    ];
+    if cfg!(feature = "saved") {
+        rows.push(text("write a saved text", Work::Write));
+        rows.push(text("read a saved text", Work::Read));
+    }
+    rows
 }
 
 /// A script of the limit's length: interrupt rounds, general events, sleeps and ticks. The last two lines fill it up.

@@ -18,7 +18,9 @@ mod exported {
             buffer_len: usize,
             n: u64,
         ) -> u64;
+        #[cfg(feature = "saved")]
         pub fn speed_run_read(text: *const u8, text_len: usize, n: u64) -> u64;
+        #[cfg(feature = "saved")]
         pub fn speed_run_write(text: *const u8, text_len: usize, buffer: *mut u8, buffer_len: usize, n: u64) -> u64;
     }
 }
@@ -63,10 +65,22 @@ pub fn session(table: &[u8], script: &[u8], buffer: &mut [u8], n: u64) -> u64 {
     }
 }
 
+#[cfg(feature = "saved")]
 pub fn reads(text: &[u8], n: u64) -> u64 {
     unsafe { exported::speed_run_read(text.as_ptr(), text.len(), n) }
 }
 
+#[cfg(feature = "saved")]
 pub fn writes(text: &[u8], buffer: &mut [u8], n: u64) -> u64 {
     unsafe { exported::speed_run_write(text.as_ptr(), text.len(), buffer.as_mut_ptr(), buffer.len(), n) }
+}
+
+#[cfg(not(feature = "saved"))]
+pub fn reads(_: &[u8], _: u64) -> u64 {
+    unreachable!("there is no row of the saved text")
+}
+
+#[cfg(not(feature = "saved"))]
+pub fn writes(_: &[u8], _: &mut [u8], _: u64) -> u64 {
+    unreachable!("there is no row of the saved text")
 }
