@@ -3,10 +3,14 @@
 use crate::cells::OUTPUT;
 use crate::{Gpe, Machine};
 
+fn word(bytes: &[u8]) -> u64 {
+    u64::from_le_bytes(bytes.try_into().expect("eight bytes"))
+}
+
 impl Gpe {
     /// Some general event is set and enabled.
     pub fn event(&self) -> bool {
-        u64::from_le_bytes(self.status) & u64::from_le_bytes(self.enable) != 0
+        self.status.chunks(8).zip(self.enable.chunks(8)).any(|(status, enable)| word(status) & word(enable) != 0)
     }
 }
 
