@@ -1,5 +1,5 @@
 -- An event has its kind's bit, and its kind's effect is its own. Assumes nothing.
-use mathlib.Core.Path.{_≡_, refl, sym, _∙_, ap}
+use mathlib.Core.Path.{_≡_, refl, _∙_, ap}
 use Prim.Native.Nat.{ℕ, _^_}
 use mathlib.Core.Bool.{cond}
 use native.Mathlib.Omega.{arith}

@@ -9,16 +9,15 @@ use Rattle.clock.specs.declared.Clock.{Clock}
 use Rattle.machine.specs.declared.Machine.{Machine}
 use Rattle.machine.specs.declared.sleeping.NextState.the-variants as next
 use Rattle.machine.specs.Fields.{withEvent, withButton, enter}
-use Rattle.machine.specs.Gpe.{bytePut, byteStored, stores, stored, noStore}
+use Rattle.machine.specs.Gpe.{bytePut, byteStored, stores, stored}
 use Rattle.machine.specs.Lines.{awake}
 use Rattle.machine.specs.Scalars.{scalarsOf}
 use Rattle.machine.specs.Status.{pwrbtnBit, wakBit}
-use Rattle.machine.specs.Sleep.{isSleeping, wokenIf, completed, stateChanged, inNextState}
+use Rattle.machine.specs.Sleep.{isSleeping, stateChanged, inNextState}
 use Rattle.registers.specs.Registers.{inGpeStatus, gpeStsAfter, gpeEnAfter}
-use Rattle.model.specs.Answer.{firstApplying}
 use Rattle.model.specs.Bus.{writeOf, gpeWritten}
-use Rattle.model.specs.Control.{completes, namedState, controlled, controlWritten}
-use Rattle.model.specs.Effect.{steppedBy, unmoved, done, unlessRefused, completing, stsByte, enByte, gpeWrite, writeEffect, wakesIf, pressWakes, pressEffect, releaseEffect, signalEffect, pcieWakeEffect, noticeEffect, generalByte, generalEffect, overriddenIf, clockEffect, ticksEffect, effectBy, eventEffect, effectOf}
+use Rattle.model.specs.Control.{completes, controlled, controlWritten}
+use Rattle.model.specs.Effect.{steppedBy, unmoved, done, unlessRefused, completing, stsByte, enByte, gpeWrite, writeEffect, wakesIf, pressWakes, pressEffect, releaseEffect, signalEffect, pcieWakeEffect, noticeEffect, generalByte, generalEffect, clockEffect, ticksEffect, effectBy, eventEffect, effectOf}
 use Rattle.model.specs.EventKinds.{EventKind, eventKind}
 use Rattle.model.specs.EventKinds as kind
 use Rattle.model.specs.Events.{StatusBit, eventBit, pm1Mask, inS5, pressOf, signalOf, signalWakes, pcieWakes, pcieWakeOf, inGpe0, generalEnabled, generalRaised, generalOf, timed, clockAfter, tickedBy, turnsBy, valueBy, doneBy, eventOf}

@@ -1,7 +1,7 @@
 -- A step as its effect: the answer, the machine's scalars by the step's own rule, the general event byte that it stores, and what becomes of the
 -- sleep state. That a step is its effect, done to the machine, is `effect-law` of `proofs/Effects.antt`.
 use mathlib.Core.Bool.{Bool, true, false, cond, _&&_, _||_}
-use mathlib.Core.List.{List, [], _∷_}
+use mathlib.Core.List.{List}
 use Prim.Native.Nat.{ℕ, _-_, _/_, _%_, _^_}
 use lib.Bits.{bitOr}
 use lib.Dec.{eqb}
@@ -36,7 +36,6 @@ use Rattle.model.specs.Step.{registerOf, offsetOf, registerRefusals, ref
 use Rattle.model.specs.declared.Answer.{Answer}
 use Rattle.model.specs.declared.Answer.the-variants as answer
 use Rattle.model.specs.declared.Effect.{Effect}
-use Rattle.model.specs.declared.Event.{Event}
 use Rattle.model.specs.declared.Event.the-variants as event
 use Rattle.model.specs.declared.Register.{Register}
 use Rattle.model.specs.declared.Register.the-variants as register

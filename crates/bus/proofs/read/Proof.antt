@@ -1,24 +1,16 @@
-use mathlib.Core.Path.{refl, sym, _∙_}
 use Rattle.model.specs.Effect.{effectOf}
 use Rattle.model.specs.Ports.{registerAt, offsetAt}
 use Rattle.model.specs.Step.{answerTo}
 use borrow.Author.Needs.{needs}
 use Rattle.bus.proofs.read.Statement.{statement}
 use Rattle.bus.proofs.read.Tie as tie
-use Rattle.bus.proofs.read.Reads as reads
-use Rattle.bus.proofs.read.Lts as lts
-use Rattle.bus.proofs.read_answer.Reads as read-answer-reads
-use Rattle.model.proofs.unmoved.Reads as unmoved-reads
 
--- src/lib.rt:56:23
 read-answer-requires : tie.Need-read-answer-requires
 read-answer-requires c κs = search needs
 
--- src/lib.rt:56:5
 unmoved-requires : tie.Need-unmoved-requires
 unmoved-requires c κs = search needs
 
--- src/lib.rt:51:1
 returns : tie.Need-returns
 unfolding effectOf answerTo registerAt offsetAt
 returns c = simp (c .unmoved .ensures, c .before .read-answer .ensures, c .before .before .pre)

@@ -13,58 +13,42 @@ use Rattle.model.specs.Effect.{controlWrite, completing}
 use borrow.Author.Needs.{needs}
 use Rattle.control.proofs.write.Statement.{statement}
 use Rattle.control.proofs.write.Tie as tie
-use Rattle.control.proofs.write.Reads as reads
-use Rattle.control.proofs.write.Lts as lts
-use Rattle.control.proofs.completes.Reads as completes-reads
-use Rattle.control.proofs.controlled.Reads as controlled-reads
-use Rattle.control.proofs.named_state.Reads as named-state-reads
-use Rattle.model.proofs.done.Reads as done-reads
-use Rattle.model.proofs.unmoved.Reads as unmoved-reads
 
 named : (m : Machine) (b : Bool) (width offset written : ℕ) (x : Scalars) (state : ℕ) → x ≡ scalarsOf (controlled m b width offset written)
     → state ≡ stateOf (hasPm1bCnt (m .settings)) (x .«slp_typ_a») (x .«slp_typ_b») (m .settings .sleep .pairs) → state ≡ namedState m b width offset written
 named m b width offset written x state p e =
     e ∙ ap (λ (y : Scalars). stateOf (hasPm1bCnt (m .settings)) (y .«slp_typ_a») (y .«slp_typ_b») (m .settings .sleep .pairs)) p
 
--- src/lib.rt:120:9
 controlled-requires : tie.Need-controlled-requires
 controlled-requires c κs = search needs
 
--- src/lib.rt:121:8
 completes-requires : tie.Need-completes-requires
 completes-requires c κs = search needs
 
--- src/lib.rt:122:13
 named-state-requires : tie.Need-named-state-requires
 named-state-requires c κs = search needs
 
--- src/lib.rt:124:13
 unmoved-requires : tie.Need-unmoved-requires
 unmoved-requires c κs = search needs
 
--- src/lib.rt:124:13
 returns : tie.Need-returns
 unfolding controlWrite
 returns c =
     let n : _ = named _ _ _ _ _ _ _ (c .before .before .before .before .before .controlled .ensures) (c .before .before .named-state .ensures) in
     simp (c .unmoved .ensures, eq-eqb _ 0 (sym n ∙ c .before .if2 .taken), sym (c .before .before .before .before .completes .ensures) ∙ c .before .before .before .if1 .taken)
 
--- src/lib.rt:126:9
 done-requires : tie.Need-done-requires
 done-requires c κs = search needs
 
--- src/lib.rt:128:9
 done-requires-2 : tie.Need-done-requires-2
 done-requires-2 c κs = search needs
 
--- src/lib.rt:116:1
 returns-2 : tie.Need-returns-2
 unfolding controlWrite completing
 returns-2 c =
     let n : _ = named _ _ _ _ _ _ _ (c .before .before .before .before .before .controlled .ensures) (c .before .before .named-state .ensures) in
     simp (c .done .ensures, ne-eqb _ 0 (λ z. c .before .if2 .left (n ∙ z)), n, sym (c .before .before .before .before .completes .ensures) ∙ c .before .before .before .if1 .taken, c .before .before .before .before .before .controlled .ensures)
 
--- src/lib.rt:116:1
 returns-3 : tie.Need-returns-3
 unfolding controlWrite completing
 returns-3 c = simp (c .done2 .ensures, sym (c .before .before .completes .ensures) ∙ c .before .if1 .left, c .before .before .before .controlled .ensures)

@@ -5,108 +5,76 @@ use Rattle.model.specs.Effect.{effectOf}
 use borrow.Author.Needs.{needs}
 use Rattle.events.proofs.event.Statement.{statement}
 use Rattle.events.proofs.event.Tie as tie
-use Rattle.events.proofs.event.Reads as reads
-use Rattle.events.proofs.event.Lts as lts
-use Rattle.events.proofs.buttons.notice.Reads as notice-reads
-use Rattle.events.proofs.buttons.pcie_wake.Reads as pcie-wake-reads
-use Rattle.events.proofs.buttons.press.Reads as press-reads
-use Rattle.events.proofs.buttons.release.Reads as release-reads
-use Rattle.events.proofs.buttons.signal.Reads as signal-reads
-use Rattle.events.proofs.general.general.Reads as general-reads
-use Rattle.events.proofs.kind_of.Reads as kind-of-reads
-use Rattle.events.proofs.timer.ticks.Reads as ticks-reads
 
--- src/lib.rt:71:9
 kind-of-requires : tie.Need-kind-of-requires
 kind-of-requires c κs = search needs
 
--- src/lib.rt:73:29
 enum-told : tie.Need-enum-told
 enum-told c = search needs
 
--- src/lib.rt:73:29
 press-requires : tie.Need-press-requires
 press-requires c κs = search needs
 
--- src/lib.rt:74:31
 enum-told-2 : tie.Need-enum-told-2
 enum-told-2 c = search needs
 
--- src/lib.rt:74:31
 release-requires : tie.Need-release-requires
 release-requires c κs = search needs
 
--- src/lib.rt:75:27
 enum-known-kind : tie.Need-enum-known-kind
 enum-known-kind c = search needs
 
--- src/lib.rt:75:35
 signal-requires : tie.Need-signal-requires
 signal-requires c κs = signal-mask _ _ (sym (c .before .kind .given .1) ∙ c .before .before .before .kind-of .ensures)
 
--- src/lib.rt:76:32
 enum-told-3 : tie.Need-enum-told-3
 enum-told-3 c = search needs
 
--- src/lib.rt:76:32
 pcie-wake-requires : tie.Need-pcie-wake-requires
 pcie-wake-requires c κs = search needs
 
--- src/lib.rt:77:27
 enum-known-kind-2 : tie.Need-enum-known-kind-2
 enum-known-kind-2 c = search needs
 
--- src/lib.rt:77:35
 notice-requires : tie.Need-notice-requires
 notice-requires c κs = notice-mask _ _ (sym (c .before .kind2 .given .1) ∙ c .before .before .before .kind-of .ensures)
 
--- src/lib.rt:78:28
 enum-known-kind-3 : tie.Need-enum-known-kind-3
 enum-known-kind-3 c = search needs
 
--- src/lib.rt:78:34
 general-requires : tie.Need-general-requires
 general-requires c κs = search needs
 
--- src/lib.rt:79:26
 enum-known-kind-4 : tie.Need-enum-known-kind-4
 enum-known-kind-4 c = search needs
 
--- src/lib.rt:79:32
 ticks-requires : tie.Need-ticks-requires
 ticks-requires c κs = search needs
 
--- src/lib.rt:68:1
 returns : tie.Need-returns
 unfolding effectOf
 returns c = effect-by-kind _ _ _ kind.Press (sym (c .before .enum-told .given .1) ∙ c .before .before .before .kind-of .ensures) (c .press .ensures)
 
--- src/lib.rt:68:1
 returns-2 : tie.Need-returns-2
 unfolding effectOf
 returns-2 c = effect-by-kind _ _ _ kind.Release (sym (c .before .enum-told2 .given .1) ∙ c .before .before .before .kind-of .ensures) (c .release .ensures)
 
--- src/lib.rt:68:1
 returns-3 : tie.Need-returns-3
 unfolding effectOf
 returns-3 c = signal-effect _ _ _ _ (sym (c .before .before .kind .given .1) ∙ c .before .before .before .before .kind-of .ensures) (c .signal .ensures)
 
--- src/lib.rt:68:1
 returns-4 : tie.Need-returns-4
 unfolding effectOf
 returns-4 c = effect-by-kind _ _ _ kind.PcieWake (sym (c .before .enum-told3 .given .1) ∙ c .before .before .before .kind-of .ensures) (c .pcie-wake .ensures)
 
--- src/lib.rt:68:1
 returns-5 : tie.Need-returns-5
 unfolding effectOf
 returns-5 c = notice-effect _ _ _ _ (sym (c .before .before .kind2 .given .1) ∙ c .before .before .before .before .kind-of .ensures) (c .notice .ensures)
 
--- src/lib.rt:68:1
 returns-6 : tie.Need-returns-6
 unfolding effectOf
 returns-6 c = effect-by-kind _ _ _ (kind.General _) (sym (c .before .before .kind3 .given .1) ∙ c .before .before .before .before .kind-of .ensures) (c .general .ensures)
 
--- src/lib.rt:68:1
 returns-7 : tie.Need-returns-7
 unfolding effectOf
 returns-7 c = effect-by-kind _ _ _ (kind.Ticks _) (sym (c .before .before .kind4 .given .1) ∙ c .before .before .before .before .kind-of .ensures) (c .ticks .ensures)

@@ -1,105 +1,79 @@
-use mathlib.Core.Path.{refl, sym, _∙_}
 use Rattle.events.specs.Kinds.{kindOf}
 use borrow.Author.Needs.{needs}
 use Rattle.events.proofs.kind_of.Statement.{statement}
 use Rattle.events.proofs.kind_of.Tie as tie
-use Rattle.events.proofs.kind_of.Reads as reads
-use Rattle.events.proofs.kind_of.Lts as lts
-use Rattle.events.proofs.status_bit.Reads as status-bit-reads
 
--- src/lib.rt:56:25
 enum-told : tie.Need-enum-told
 enum-told c = search needs
 
--- src/lib.rt:57:27
 enum-told-2 : tie.Need-enum-told-2
 enum-told-2 c = search needs
 
--- src/lib.rt:58:48
 enum-told-3 : tie.Need-enum-told-3
 enum-told-3 c = search needs
 
--- src/lib.rt:58:48
 status-bit-requires : tie.Need-status-bit-requires
 status-bit-requires c κs = search needs
 
--- src/lib.rt:59:43
 enum-told-4 : tie.Need-enum-told-4
 enum-told-4 c = search needs
 
--- src/lib.rt:59:43
 status-bit-requires-2 : tie.Need-status-bit-requires-2
 status-bit-requires-2 c κs = search needs
 
--- src/lib.rt:60:28
 enum-told-5 : tie.Need-enum-told-5
 enum-told-5 c = search needs
 
--- src/lib.rt:61:47
 enum-told-6 : tie.Need-enum-told-6
 enum-told-6 c = search needs
 
--- src/lib.rt:61:47
 status-bit-requires-3 : tie.Need-status-bit-requires-3
 status-bit-requires-3 c κs = search needs
 
--- src/lib.rt:62:44
 enum-told-7 : tie.Need-enum-told-7
 enum-told-7 c = search needs
 
--- src/lib.rt:62:44
 status-bit-requires-4 : tie.Need-status-bit-requires-4
 status-bit-requires-4 c κs = search needs
 
--- src/lib.rt:63:24
 enum-known-e : tie.Need-enum-known-e
 enum-known-e c = search needs
 
--- src/lib.rt:64:22
 enum-known-e-2 : tie.Need-enum-known-e-2
 enum-known-e-2 c = search needs
 
--- src/lib.rt:52:1
 returns : tie.Need-returns
 unfolding kindOf
 returns c = simp (c .enum-told .given .1)
 
--- src/lib.rt:52:1
 returns-2 : tie.Need-returns-2
 unfolding kindOf
 returns-2 c = simp (c .enum-told2 .given .1)
 
--- src/lib.rt:52:1
 returns-3 : tie.Need-returns-3
 unfolding kindOf
 returns-3 c = simp (c .status-bit .ensures, c .before .enum-told3 .given .1)
 
--- src/lib.rt:52:1
 returns-4 : tie.Need-returns-4
 unfolding kindOf
 returns-4 c = simp (c .status-bit2 .ensures, c .before .enum-told4 .given .1)
 
--- src/lib.rt:52:1
 returns-5 : tie.Need-returns-5
 unfolding kindOf
 returns-5 c = simp (c .enum-told5 .given .1)
 
--- src/lib.rt:52:1
 returns-6 : tie.Need-returns-6
 unfolding kindOf
 returns-6 c = simp (c .status-bit3 .ensures, c .before .enum-told6 .given .1)
 
--- src/lib.rt:52:1
 returns-7 : tie.Need-returns-7
 unfolding kindOf
 returns-7 c = simp (c .status-bit4 .ensures, c .before .enum-told7 .given .1)
 
--- src/lib.rt:52:1
 returns-8 : tie.Need-returns-8
 unfolding kindOf
 returns-8 c = simp (c .before .e .given .1)
 
--- src/lib.rt:52:1
 returns-9 : tie.Need-returns-9
 unfolding kindOf
 returns-9 c = simp (c .before .e2 .given .1)

@@ -1,39 +1,27 @@
-use mathlib.Core.Path.{refl, sym, _∙_}
+use mathlib.Core.Path.{sym, _∙_}
 use Rattle.model.specs.Effect.{effectOf}
 use Rattle.model.specs.Answer.{firstApplying}
 use Rattle.model.specs.Step.{answerTo}
 use borrow.Author.Needs.{needs}
 use Rattle.firmware.proofs.drop.Statement.{statement}
 use Rattle.firmware.proofs.drop.Tie as tie
-use Rattle.firmware.proofs.drop.Reads as reads
-use Rattle.firmware.proofs.drop.Lts as lts
-use Rattle.firmware.proofs.drop_flag.Reads as drop-flag-reads
-use Rattle.machine.proofs.awake.Reads as awake-reads
-use Rattle.model.proofs.done.Reads as done-reads
-use Rattle.model.proofs.unmoved.Reads as unmoved-reads
 
--- src/lib.rt:96:8
 awake-requires : tie.Need-awake-requires
 awake-requires c κs = search needs
 
--- src/lib.rt:97:24
 drop-flag-requires : tie.Need-drop-flag-requires
 drop-flag-requires c κs = search needs
 
--- src/lib.rt:97:9
 done-requires : tie.Need-done-requires
 done-requires c κs = search needs
 
--- src/lib.rt:99:9
 unmoved-requires : tie.Need-unmoved-requires
 unmoved-requires c κs = search needs
 
--- src/lib.rt:93:1
 returns : tie.Need-returns
 unfolding effectOf answerTo firstApplying
 returns c = simp (c .done .ensures, c .before .drop-flag .ensures, sym (c .before .before .before .awake .ensures) ∙ c .before .before .if1 .taken)
 
--- src/lib.rt:93:1
 returns-2 : tie.Need-returns-2
 unfolding effectOf answerTo firstApplying
 returns-2 c = simp (c .unmoved .ensures, sym (c .before .before .awake .ensures) ∙ c .before .if1 .left)

@@ -1,53 +1,37 @@
-use mathlib.Core.Path.{refl, sym, _∙_}
+use mathlib.Core.Path.{sym, _∙_}
 use Rattle.model.specs.Effect.{effectOf}
 use Rattle.model.specs.Answer.{firstApplying}
 use Rattle.model.specs.Step.{answerTo}
 use borrow.Author.Needs.{needs}
 use Rattle.firmware.proofs.take.Statement.{statement}
 use Rattle.firmware.proofs.take.Tie as tie
-use Rattle.firmware.proofs.take.Reads as reads
-use Rattle.firmware.proofs.take.Lts as lts
-use Rattle.firmware.proofs.take_command.Reads as take-command-reads
-use Rattle.firmware.proofs.wide.Reads as wide-reads
-use Rattle.machine.proofs.awake.Reads as awake-reads
-use Rattle.model.proofs.done.Reads as done-reads
-use Rattle.model.proofs.unmoved.Reads as unmoved-reads
 
--- src/lib.rt:73:8
 awake-requires : tie.Need-awake-requires
 awake-requires c κs = search needs
 
--- src/lib.rt:75:25
 wide-requires : tie.Need-wide-requires
 wide-requires c κs = search needs
 
--- src/lib.rt:75:42
 take-command-requires : tie.Need-take-command-requires
 take-command-requires c κs = search needs
 
--- src/lib.rt:75:13
 done-requires : tie.Need-done-requires
 done-requires c κs = search needs
 
--- src/lib.rt:77:13
 unmoved-requires : tie.Need-unmoved-requires
 unmoved-requires c κs = search needs
 
--- src/lib.rt:80:9
 unmoved-requires-2 : tie.Need-unmoved-requires-2
 unmoved-requires-2 c κs = search needs
 
--- src/lib.rt:70:1
 returns : tie.Need-returns
 unfolding effectOf answerTo firstApplying
 returns c = simp (c .done .ensures, c .before .take-command .ensures, c .before .before .wide .ensures, c .before .before .before .if2 .taken, sym (c .before .before .before .before .before .awake .ensures) ∙ c .before .before .before .before .if1 .taken)
 
--- src/lib.rt:70:1
 returns-2 : tie.Need-returns-2
 unfolding effectOf answerTo firstApplying
 returns-2 c = simp (c .unmoved .ensures, c .before .if2 .left, sym (c .before .before .before .awake .ensures) ∙ c .before .before .if1 .taken)
 
--- src/lib.rt:70:1
 returns-3 : tie.Need-returns-3
 unfolding effectOf answerTo firstApplying
 returns-3 c = simp (c .unmoved2 .ensures, sym (c .before .before .awake .ensures) ∙ c .before .if1 .left)

@@ -5,90 +5,62 @@ use Rattle.bus.proofs.Laws.{past-four, event-write-past}
 use borrow.Author.Needs.{needs}
 use Rattle.bus.proofs.cell_rules.event_written.Statement.{statement}
 use Rattle.bus.proofs.cell_rules.event_written.Tie as tie
-use Rattle.bus.proofs.cell_rules.event_written.Reads as reads
-use Rattle.bus.proofs.cell_rules.event_written.Lts as lts
-use Rattle.bus.proofs.cell_rules.with_event.Reads as with-event-reads
-use Rattle.machine.proofs.Machine.scalars.Reads as scalars-reads
-use Rattle.registers.proofs.clearable.Reads as clearable-reads
-use Rattle.registers.proofs.enable_high.Reads as enable-high-reads
-use Rattle.registers.proofs.enable_in.Reads as enable-in-reads
-use Rattle.registers.proofs.enable_low.Reads as enable-low-reads
-use Rattle.registers.proofs.status_high.Reads as status-high-reads
-use Rattle.registers.proofs.status_low.Reads as status-low-reads
 
--- src/cell_rules.rt:168:17
 clearable-requires : tie.Need-clearable-requires
 clearable-requires c κs = search needs
 
--- src/cell_rules.rt:169:27
 status-low-requires : tie.Need-status-low-requires
 status-low-requires c κs = search needs
 
--- src/cell_rules.rt:169:13
 with-event-requires : tie.Need-with-event-requires
 with-event-requires c κs = search needs
 
--- src/cell_rules.rt:172:17
 clearable-requires-2 : tie.Need-clearable-requires-2
 clearable-requires-2 c κs = search needs
 
--- src/cell_rules.rt:173:27
 status-high-requires : tie.Need-status-high-requires
 status-high-requires c κs = search needs
 
--- src/cell_rules.rt:173:13
 with-event-requires-2 : tie.Need-with-event-requires-2
 with-event-requires-2 c κs = search needs
 
--- src/cell_rules.rt:176:17
 enable-in-requires : tie.Need-enable-in-requires
 enable-in-requires c κs = search needs
 
--- src/cell_rules.rt:177:32
 enable-low-requires : tie.Need-enable-low-requires
 enable-low-requires c κs = search needs
 
--- src/cell_rules.rt:177:13
 with-event-requires-3 : tie.Need-with-event-requires-3
 with-event-requires-3 c κs = search needs
 
--- src/cell_rules.rt:180:17
 enable-in-requires-2 : tie.Need-enable-in-requires-2
 enable-in-requires-2 c κs = search needs
 
--- src/cell_rules.rt:181:32
 enable-high-requires : tie.Need-enable-high-requires
 enable-high-requires c κs = search needs
 
--- src/cell_rules.rt:181:13
 with-event-requires-4 : tie.Need-with-event-requires-4
 with-event-requires-4 c κs = search needs
 
--- src/cell_rules.rt:183:14
 scalars-requires : tie.Need-scalars-requires
 scalars-requires c κs = search needs
 
--- src/cell_rules.rt:160:1
 returns : tie.Need-returns
 unfolding statusAfter enableAfter inStatus inEnable
 returns c = simp (c .with-event .ensures, c .before .status-low .ensures, c .before .before .clearable .ensures, c .before .before .before .match .keys1)
 
--- src/cell_rules.rt:160:1
 returns-2 : tie.Need-returns-2
 unfolding statusAfter enableAfter inStatus inEnable
 returns-2 c = simp (c .with-event2 .ensures, c .before .status-high .ensures, c .before .before .clearable2 .ensures, c .before .before .before .match .keys2)
 
--- src/cell_rules.rt:160:1
 returns-3 : tie.Need-returns-3
 unfolding statusAfter enableAfter inStatus inEnable
 returns-3 c = simp (c .with-event3 .ensures, c .before .enable-low .ensures, c .before .before .enable-in .ensures, c .before .before .before .match .keys3)
 
--- src/cell_rules.rt:160:1
 returns-4 : tie.Need-returns-4
 unfolding statusAfter enableAfter inStatus inEnable
 returns-4 c = simp (c .with-event4 .ensures, c .before .enable-high .ensures, c .before .before .enable-in2 .ensures, c .before .before .before .match .keys4)
 
--- src/cell_rules.rt:160:1
 returns-5 : tie.Need-returns-5
 returns-5 c =
     let at : _ = c .before .before .before .args in

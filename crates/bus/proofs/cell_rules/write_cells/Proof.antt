@@ -4,134 +4,94 @@ use Rattle.bus.proofs.Laws.{cell-in-status, cell-past-status, past-two,
 use borrow.Author.Needs.{needs}
 use Rattle.bus.proofs.cell_rules.write_cells.Statement.{statement}
 use Rattle.bus.proofs.cell_rules.write_cells.Tie as tie
-use Rattle.bus.proofs.cell_rules.write_cells.Reads as reads
-use Rattle.bus.proofs.cell_rules.write_cells.Lts as lts
-use Rattle.bus.proofs.cell_rules.en_byte.Reads as en-byte-reads
-use Rattle.bus.proofs.cell_rules.event_written.Reads as event-written-reads
-use Rattle.bus.proofs.cell_rules.gpe_number.Reads as gpe-number-reads
-use Rattle.bus.proofs.cell_rules.latch.Reads as latch-reads
-use Rattle.bus.proofs.cell_rules.stores.Reads as stores-reads
-use Rattle.bus.proofs.cell_rules.sts_byte.Reads as sts-byte-reads
-use Rattle.bus.proofs.cell_rules.with_arb_dis.Reads as with-arb-dis-reads
-use Rattle.control.proofs.write.Reads as write-reads
-use Rattle.model.proofs.done.Reads as done-reads
-use Rattle.model.proofs.unmoved.Reads as unmoved-reads
-use Rattle.registers.proofs.low_byte.Reads as low-byte-reads
 
--- src/cell_rules.rt:201:16
 enum-told : tie.Need-enum-told
 enum-told c = search needs
 
--- src/cell_rules.rt:202:17
 unmoved-requires : tie.Need-unmoved-requires
 unmoved-requires c κs = search needs
 
--- src/cell_rules.rt:202:17
 returns : tie.Need-returns
 returns c =
     let at : _ = c .before .before .before .before .before in
     at-register (at .args .m) (at .args .width) (at .args .offset) (at .args .written) _ _ _ (c .before .before .enum-told .given .1) (at .pre)
     (smi-refuses (at .args .m) (at .args .width) (at .args .offset) (at .args .written) _ (c .before .if1 .taken) (c .unmoved .ensures))
 
--- src/cell_rules.rt:204:37
 low-byte-requires : tie.Need-low-byte-requires
 low-byte-requires c κs = search needs
 
--- src/cell_rules.rt:204:28
 latch-requires : tie.Need-latch-requires
 latch-requires c κs = search needs
 
--- src/cell_rules.rt:204:13
 done-requires : tie.Need-done-requires
 done-requires c κs = search needs
 
--- src/cell_rules.rt:206:26
 enum-known-r : tie.Need-enum-known-r
 enum-known-r c = search needs
 
--- src/cell_rules.rt:206:47
 event-written-requires : tie.Need-event-written-requires
 event-written-requires c κs = search needs
 
--- src/cell_rules.rt:206:32
 done-requires-2 : tie.Need-done-requires-2
 done-requires-2 c κs = search needs
 
--- src/cell_rules.rt:207:26
 enum-known-r-2 : tie.Need-enum-known-r-2
 enum-known-r-2 c = search needs
 
--- src/cell_rules.rt:219:13
 write-requires : tie.Need-write-requires
 write-requires c κs = search needs
 
--- src/cell_rules.rt:223:29
 enum-told-2 : tie.Need-enum-told-2
 enum-told-2 c = search needs
 
--- src/cell_rules.rt:223:13
 with-arb-dis-requires : tie.Need-with-arb-dis-requires
 with-arb-dis-requires c κs = search needs
 
--- src/cell_rules.rt:221:29
 done-requires-3 : tie.Need-done-requires-3
 done-requires-3 c κs = search needs
 
--- src/cell_rules.rt:226:46
 enum-told-3 : tie.Need-enum-told-3
 enum-told-3 c = search needs
 
--- src/cell_rules.rt:226:28
 unmoved-requires-2 : tie.Need-unmoved-requires-2
 unmoved-requires-2 c κs = search needs
 
--- src/cell_rules.rt:227:23
 enum-known-r-3 : tie.Need-enum-known-r-3
 enum-known-r-3 c = search needs
 
--- src/cell_rules.rt:228:17
 gpe-number-requires : tie.Need-gpe-number-requires
 gpe-number-requires c κs = search needs
 
--- src/cell_rules.rt:230:38
 sts-byte-requires : tie.Need-sts-byte-requires
 sts-byte-requires c κs = search needs
 
--- src/cell_rules.rt:230:28
 stores-requires : tie.Need-stores-requires
 stores-requires c κs = search needs
 
--- src/cell_rules.rt:231:32
 en-byte-requires : tie.Need-en-byte-requires
 en-byte-requires c κs = search needs
 
--- src/cell_rules.rt:231:22
 stores-requires-2 : tie.Need-stores-requires-2
 stores-requires-2 c κs = search needs
 
--- src/cell_rules.rt:234:48
 enum-told-4 : tie.Need-enum-told-4
 enum-told-4 c = search needs
 
--- src/cell_rules.rt:234:30
 unmoved-requires-3 : tie.Need-unmoved-requires-3
 unmoved-requires-3 c κs = search needs
 
--- src/cell_rules.rt:194:1
 returns-2 : tie.Need-returns-2
 returns-2 c =
     let at : _ = c .before .before .before .before .before .before .before in
     at-register (at .args .m) (at .args .width) (at .args .offset) (at .args .written) _ _ _ (c .before .before .before .before .enum-told .given .1) (at .pre)
     (smi-takes (at .args .m) (at .args .width) (at .args .offset) (at .args .written) _ (c .before .before .before .if1 .left) (simp (c .done .ensures, c .before .latch .ensures, c .before .before .low-byte .ensures)))
 
--- src/cell_rules.rt:194:1
 returns-3 : tie.Need-returns-3
 returns-3 c =
     let at : _ = c .before .before .before .before .before .before in
     at-register (at .args .m) (at .args .width) (at .args .offset) (at .args .written) _ _ _ (c .before .before .before .r .given .1) (at .pre)
     (event-takes (at .args .m) (at .args .width) (at .args .offset) (at .args .written) _ _ (simp (c .done2 .ensures, c .before .event-written .ensures)))
 
--- src/cell_rules.rt:194:1
 returns-4 : tie.Need-returns-4
 returns-4 c =
     let at : _ = c .before .before .before .before .before .before in
@@ -147,35 +107,30 @@ returns-4 c =
     v)
     (c .before .match2 .came)))
 
--- src/cell_rules.rt:194:1
 returns-5 : tie.Need-returns-5
 returns-5 c =
     let at : _ = c .before .before .before .before .before in
     at-register (at .args .m) (at .args .width) (at .args .offset) (at .args .written) _ _ _ (c .before .before .enum-told2 .given .1) (at .pre)
     (pm2-takes (at .args .m) (at .args .width) (at .args .offset) (at .args .written) _ (simp (c .done3 .ensures, c .before .with-arb-dis .ensures)))
 
--- src/cell_rules.rt:194:1
 returns-6 : tie.Need-returns-6
 returns-6 c =
     let at : _ = c .before .before .before .before in
     at-register (at .args .m) (at .args .width) (at .args .offset) (at .args .written) _ _ _ (c .before .enum-told3 .given .1) (at .pre)
     (timer-refuses (at .args .m) (at .args .width) (at .args .offset) (at .args .written) _ (c .unmoved2 .ensures))
 
--- src/cell_rules.rt:194:1
 returns-7 : tie.Need-returns-7
 returns-7 c =
     let at : _ = c .before .before .before .before .before .before .before .before in
     at-register (at .args .m) (at .args .width) (at .args .offset) (at .args .written) _ _ _ (c .before .before .before .before .before .r3 .given .1) (at .pre)
     (status-takes (at .args .m) (at .args .width) (at .args .offset) (at .args .written) _ _ (cell-in-status _ _ _ _ (c .before .before .before .gpe-number .ensures) (c .before .before .if2 .taken)) (simp (c .stores .ensures, c .before .sts-byte .ensures)))
 
--- src/cell_rules.rt:194:1
 returns-8 : tie.Need-returns-8
 returns-8 c =
     let at : _ = c .before .before .before .before .before .before .before .before in
     at-register (at .args .m) (at .args .width) (at .args .offset) (at .args .written) _ _ _ (c .before .before .before .before .before .r3 .given .1) (at .pre)
     (enable-takes (at .args .m) (at .args .width) (at .args .offset) (at .args .written) _ _ (cell-past-status _ _ _ _ (c .before .before .before .gpe-number .ensures) (c .before .before .if2 .left)) (simp (c .stores2 .ensures, c .before .en-byte .ensures)))
 
--- src/cell_rules.rt:194:1
 returns-9 : tie.Need-returns-9
 returns-9 c =
     let at : _ = c .before .before .before .before in

@@ -1,39 +1,27 @@
-use mathlib.Core.Path.{refl, sym, _∙_}
+use mathlib.Core.Path.{sym, _∙_}
 use Rattle.model.specs.Effect.{eventEffect}
 use Rattle.model.specs.Answer.{firstApplying}
 use Rattle.model.specs.Effect.{noticeEffect}
 use borrow.Author.Needs.{needs}
 use Rattle.events.proofs.buttons.notice.Statement.{statement}
 use Rattle.events.proofs.buttons.notice.Tie as tie
-use Rattle.events.proofs.buttons.notice.Reads as reads
-use Rattle.events.proofs.buttons.notice.Lts as lts
-use Rattle.events.proofs.buttons.raise.Reads as raise-reads
-use Rattle.machine.proofs.awake.Reads as awake-reads
-use Rattle.model.proofs.done.Reads as done-reads
-use Rattle.model.proofs.unmoved.Reads as unmoved-reads
 
--- src/buttons.rt:192:8
 awake-requires : tie.Need-awake-requires
 awake-requires c κs = search needs
 
--- src/buttons.rt:193:24
 raise-requires : tie.Need-raise-requires
 raise-requires c κs = search needs
 
--- src/buttons.rt:193:9
 done-requires : tie.Need-done-requires
 done-requires c κs = search needs
 
--- src/buttons.rt:195:9
 unmoved-requires : tie.Need-unmoved-requires
 unmoved-requires c κs = search needs
 
--- src/buttons.rt:188:1
 returns : tie.Need-returns
 unfolding eventEffect firstApplying noticeEffect
 returns c = simp (c .done .ensures, c .before .raise .ensures, sym (c .before .before .before .awake .ensures) ∙ c .before .before .if1 .taken, c .before .before .before .before .pre)
 
--- src/buttons.rt:188:1
 returns-2 : tie.Need-returns-2
 unfolding eventEffect firstApplying noticeEffect
 returns-2 c = simp (c .unmoved .ensures, sym (c .before .before .awake .ensures) ∙ c .before .if1 .left)

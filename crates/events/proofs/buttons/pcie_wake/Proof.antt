@@ -1,33 +1,23 @@
-use mathlib.Core.Path.{refl, sym, _∙_}
+use mathlib.Core.Path.{sym, _∙_}
 use Rattle.model.specs.Effect.{eventEffect}
 use Rattle.model.specs.Answer.{firstApplying}
 use borrow.Author.Needs.{needs}
 use Rattle.events.proofs.buttons.pcie_wake.Statement.{statement}
 use Rattle.events.proofs.buttons.pcie_wake.Tie as tie
-use Rattle.events.proofs.buttons.pcie_wake.Reads as reads
-use Rattle.events.proofs.buttons.pcie_wake.Lts as lts
-use Rattle.events.proofs.buttons.fits.Reads as fits-reads
-use Rattle.events.proofs.buttons.wake_by_pcie.Reads as wake-by-pcie-reads
-use Rattle.model.proofs.unmoved.Reads as unmoved-reads
 
--- src/buttons.rt:180:8
 fits-requires : tie.Need-fits-requires
 fits-requires c κs = search needs
 
--- src/buttons.rt:181:9
 wake-by-pcie-requires : tie.Need-wake-by-pcie-requires
 wake-by-pcie-requires c κs = search needs
 
--- src/buttons.rt:183:9
 unmoved-requires : tie.Need-unmoved-requires
 unmoved-requires c κs = search needs
 
--- src/buttons.rt:176:1
 returns : tie.Need-returns
 unfolding eventEffect firstApplying
 returns c = simp (c .wake-by-pcie .ensures, sym (c .before .before .fits2 .ensures) ∙ c .before .if1 .taken)
 
--- src/buttons.rt:176:1
 returns-2 : tie.Need-returns-2
 unfolding eventEffect firstApplying
 returns-2 c = simp (c .unmoved .ensures, sym (c .before .before .fits2 .ensures) ∙ c .before .if1 .left)

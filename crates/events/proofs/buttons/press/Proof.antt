@@ -1,53 +1,37 @@
-use mathlib.Core.Path.{refl, sym, _∙_}
+use mathlib.Core.Path.{sym, _∙_}
 use Rattle.model.specs.Effect.{eventEffect}
 use Rattle.model.specs.Answer.{firstApplying}
 use Rattle.model.specs.Effect.{pressEffect}
 use borrow.Author.Needs.{needs}
 use Rattle.events.proofs.buttons.press.Statement.{statement}
 use Rattle.events.proofs.buttons.press.Tie as tie
-use Rattle.events.proofs.buttons.press.Reads as reads
-use Rattle.events.proofs.buttons.press.Lts as lts
-use Rattle.events.proofs.buttons.button_down.Reads as button-down-reads
-use Rattle.events.proofs.buttons.fits.Reads as fits-reads
-use Rattle.events.proofs.buttons.press_wakes.Reads as press-wakes-reads
-use Rattle.model.proofs.done.Reads as done-reads
-use Rattle.model.proofs.unmoved.Reads as unmoved-reads
 
--- src/buttons.rt:87:8
 fits-requires : tie.Need-fits-requires
 fits-requires c κs = search needs
 
--- src/buttons.rt:89:13
 unmoved-requires : tie.Need-unmoved-requires
 unmoved-requires c κs = search needs
 
--- src/buttons.rt:91:28
 button-down-requires : tie.Need-button-down-requires
 button-down-requires c κs = search needs
 
--- src/buttons.rt:91:44
 press-wakes-requires : tie.Need-press-wakes-requires
 press-wakes-requires c κs = search needs
 
--- src/buttons.rt:91:13
 done-requires : tie.Need-done-requires
 done-requires c κs = search needs
 
--- src/buttons.rt:94:9
 unmoved-requires-2 : tie.Need-unmoved-requires-2
 unmoved-requires-2 c κs = search needs
 
--- src/buttons.rt:83:1
 returns : tie.Need-returns
 unfolding eventEffect firstApplying pressEffect
 returns c = simp (c .unmoved .ensures, c .before .if2 .taken, sym (c .before .before .before .fits2 .ensures) ∙ c .before .before .if1 .taken)
 
--- src/buttons.rt:83:1
 returns-2 : tie.Need-returns-2
 unfolding eventEffect firstApplying pressEffect
 returns-2 c = simp (c .done .ensures, c .before .press-wakes .ensures, c .before .before .button-down .ensures, c .before .before .before .if2 .left, sym (c .before .before .before .before .before .fits2 .ensures) ∙ c .before .before .before .before .if1 .taken)
 
--- src/buttons.rt:83:1
 returns-3 : tie.Need-returns-3
 unfolding eventEffect firstApplying pressEffect
 returns-3 c = simp (c .unmoved2 .ensures, sym (c .before .before .fits2 .ensures) ∙ c .before .if1 .left)

@@ -1,47 +1,31 @@
-use mathlib.Core.Path.{refl, sym, _∙_}
+use mathlib.Core.Path.{sym, _∙_}
 use Rattle.model.specs.Effect.{signalEffect}
 use borrow.Author.Needs.{needs}
 use Rattle.events.proofs.buttons.raise_signal.Statement.{statement}
 use Rattle.events.proofs.buttons.raise_signal.Tie as tie
-use Rattle.events.proofs.buttons.raise_signal.Reads as reads
-use Rattle.events.proofs.buttons.raise_signal.Lts as lts
-use Rattle.events.proofs.buttons.in_s5.Reads as in-s5-reads
-use Rattle.events.proofs.buttons.raise.Reads as raise-reads
-use Rattle.events.proofs.buttons.signal_wakes.Reads as signal-wakes-reads
-use Rattle.events.proofs.buttons.wakes_if.Reads as wakes-if-reads
-use Rattle.model.proofs.done.Reads as done-reads
-use Rattle.model.proofs.unmoved.Reads as unmoved-reads
 
--- src/buttons.rt:136:8
 in-s5-requires : tie.Need-in-s5-requires
 in-s5-requires c κs = search needs
 
--- src/buttons.rt:137:9
 unmoved-requires : tie.Need-unmoved-requires
 unmoved-requires c κs = search needs
 
--- src/buttons.rt:139:24
 raise-requires : tie.Need-raise-requires
 raise-requires c κs = search needs
 
--- src/buttons.rt:139:71
 signal-wakes-requires : tie.Need-signal-wakes-requires
 signal-wakes-requires c κs = search needs
 
--- src/buttons.rt:139:39
 wakes-if-requires : tie.Need-wakes-if-requires
 wakes-if-requires c κs = search needs
 
--- src/buttons.rt:139:9
 done-requires : tie.Need-done-requires
 done-requires c κs = search needs
 
--- src/buttons.rt:132:1
 returns : tie.Need-returns
 unfolding signalEffect
 returns c = simp (c .unmoved .ensures, sym (c .before .before .in-s5 .ensures) ∙ c .before .if1 .taken)
 
--- src/buttons.rt:132:1
 returns-2 : tie.Need-returns-2
 unfolding signalEffect
 returns-2 c = simp (c .done .ensures, c .before .wakes-if .ensures, c .before .before .signal-wakes .ensures, c .before .before .before .raise .ensures, sym (c .before .before .before .before .before .in-s5 .ensures) ∙ c .before .before .before .before .if1 .left, c .before .before .before .before .before .before .pre)

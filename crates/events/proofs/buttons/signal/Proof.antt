@@ -1,33 +1,23 @@
-use mathlib.Core.Path.{refl, sym, _∙_}
+use mathlib.Core.Path.{sym, _∙_}
 use Rattle.model.specs.Effect.{eventEffect}
 use Rattle.model.specs.Answer.{firstApplying}
 use borrow.Author.Needs.{needs}
 use Rattle.events.proofs.buttons.signal.Statement.{statement}
 use Rattle.events.proofs.buttons.signal.Tie as tie
-use Rattle.events.proofs.buttons.signal.Reads as reads
-use Rattle.events.proofs.buttons.signal.Lts as lts
-use Rattle.events.proofs.buttons.fits.Reads as fits-reads
-use Rattle.events.proofs.buttons.raise_signal.Reads as raise-signal-reads
-use Rattle.model.proofs.unmoved.Reads as unmoved-reads
 
--- src/buttons.rt:149:8
 fits-requires : tie.Need-fits-requires
 fits-requires c κs = search needs
 
--- src/buttons.rt:150:9
 raise-signal-requires : tie.Need-raise-signal-requires
 raise-signal-requires c κs = search needs
 
--- src/buttons.rt:152:9
 unmoved-requires : tie.Need-unmoved-requires
 unmoved-requires c κs = search needs
 
--- src/buttons.rt:144:1
 returns : tie.Need-returns
 unfolding eventEffect firstApplying
 returns c = simp (c .raise-signal .ensures, rw (c .before .before .before .before .pre) at (sym (c .before .before .fits2 .ensures) ∙ c .before .if1 .taken))
 
--- src/buttons.rt:144:1
 returns-2 : tie.Need-returns-2
 unfolding eventEffect firstApplying
 returns-2 c = simp (c .unmoved .ensures, rw (c .before .before .before .before .pre) at (sym (c .before .before .fits2 .ensures) ∙ c .before .if1 .left))

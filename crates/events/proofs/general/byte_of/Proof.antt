@@ -1,22 +1,17 @@
-use mathlib.Core.Path.{refl, sym, _∙_}
+use mathlib.Core.Path.{refl}
 use Prim.Native.Nat.{_≤_, _/_}
 use native.Mathlib.Omega.{arith}
 use lib.ListN.{length, List·getD-eq-default}
 use borrow.Author.Needs.{needs}
 use Rattle.events.proofs.general.byte_of.Statement.{statement}
 use Rattle.events.proofs.general.byte_of.Tie as tie
-use Rattle.events.proofs.general.byte_of.Reads as reads
-use Rattle.events.proofs.general.byte_of.Lts as lts
 
--- src/general.rt:73:24
 array-read-result : tie.Need-array-read-result
 array-read-result c = search needs
 
--- src/general.rt:69:1
 returns : tie.Need-returns
 returns c = search needs
 
--- src/general.rt:69:1
 returns-2 : tie.Need-returns-2
 returns-2 c =
     let xs = c .before .args .t1 in

@@ -1,45 +1,31 @@
-use mathlib.Core.Path.{refl, sym, _∙_}
+use mathlib.Core.Path.{sym, _∙_}
 use Rattle.model.specs.Effect.{generalByte}
 use borrow.Author.Needs.{needs}
 use Rattle.events.proofs.general.raised_byte.Statement.{statement}
 use Rattle.events.proofs.general.raised_byte.Tie as tie
-use Rattle.events.proofs.general.raised_byte.Reads as reads
-use Rattle.events.proofs.general.raised_byte.Lts as lts
-use Rattle.events.proofs.general.bit8.Reads as bit8-reads
-use Rattle.events.proofs.general.byte_of.Reads as byte-of-reads
-use Rattle.events.proofs.general.in_gpe0.Reads as in-gpe0-reads
-use Rattle.events.proofs.general.number_in.Reads as number-in-reads
 
--- src/general.rt:112:8
 in-gpe0-requires : tie.Need-in-gpe0-requires
 in-gpe0-requires c κs = search needs
 
--- src/general.rt:114:20
 byte-of-requires : tie.Need-byte-of-requires
 byte-of-requires c κs = search needs
 
--- src/general.rt:114:39
 bit8-requires : tie.Need-bit8-requires
 bit8-requires c κs = search needs
 
--- src/general.rt:122:13
 number-in-requires : tie.Need-number-in-requires
 number-in-requires c κs = search needs
 
--- src/general.rt:123:20
 byte-of-requires-2 : tie.Need-byte-of-requires-2
 byte-of-requires-2 c κs = search needs
 
--- src/general.rt:123:39
 bit8-requires-2 : tie.Need-bit8-requires-2
 bit8-requires-2 c κs = search needs
 
--- src/general.rt:106:1
 returns : tie.Need-returns
 unfolding generalByte
 returns c = simp (c .bit8 .ensures, c .before .byte-of .ensures, sym (c .before .before .before .in-gpe0 .ensures) ∙ c .before .before .if1 .taken)
 
--- src/general.rt:106:1
 returns-2 : tie.Need-returns-2
 unfolding generalByte
 returns-2 c = simp (c .bit82 .ensures, c .before .byte-of2 .ensures, c .before .before .number-in .ensures, sym (c .before .before .before .before .in-gpe0 .ensures) ∙ c .before .before .before .if1 .left)

@@ -1,54 +1,36 @@
-use mathlib.Core.Path.{refl, sym, _∙_}
+use mathlib.Core.Path.{sym, _∙_}
 use Rattle.model.specs.Effect.{eventEffect}
 use Rattle.model.specs.Answer.{firstApplying}
 use Rattle.model.specs.Effect.{ticksEffect}
 use borrow.Author.Needs.{needs}
 use Rattle.events.proofs.timer.ticks.Statement.{statement}
 use Rattle.events.proofs.timer.ticks.Tie as tie
-use Rattle.events.proofs.timer.ticks.Reads as reads
-use Rattle.events.proofs.timer.ticks.Lts as lts
-use Rattle.clock.proofs.ticks.Reads as ticks-reads
-use Rattle.events.proofs.timer.overridden_if.Reads as overridden-if-reads
-use Rattle.events.proofs.timer.timed.Reads as timed-reads
-use Rattle.machine.proofs.awake.Reads as awake-reads
-use Rattle.model.proofs.done.Reads as done-reads
-use Rattle.model.proofs.unmoved.Reads as unmoved-reads
-use Rattle.platform.proofs.wide_timer.Reads as wide-timer-reads
 
--- src/timer.rt:56:9
 wide-timer-requires : tie.Need-wide-timer-requires
 wide-timer-requires c κs = search needs
 
--- src/timer.rt:57:8
 awake-requires : tie.Need-awake-requires
 awake-requires c κs = search needs
 
--- src/timer.rt:58:13
 ticks-requires : tie.Need-ticks-requires
 ticks-requires c κs = search needs
 
--- src/timer.rt:59:30
 timed-requires : tie.Need-timed-requires
 timed-requires c κs = search needs
 
--- src/timer.rt:59:43
 overridden-if-requires : tie.Need-overridden-if-requires
 overridden-if-requires c κs = search needs
 
--- src/timer.rt:59:9
 done-requires : tie.Need-done-requires
 done-requires c κs = search needs
 
--- src/timer.rt:61:9
 unmoved-requires : tie.Need-unmoved-requires
 unmoved-requires c κs = search needs
 
--- src/timer.rt:52:1
 returns : tie.Need-returns
 unfolding eventEffect firstApplying ticksEffect
 returns c = simp (c .done .ensures, c .before .overridden-if .ensures, c .before .before .timed .ensures, c .before .before .before .ticks .ensures, sym (c .before .before .before .before .before .awake .ensures) ∙ c .before .before .before .before .if1 .taken, c .before .before .before .before .before .before .wide-timer .ensures)
 
--- src/timer.rt:52:1
 returns-2 : tie.Need-returns-2
 unfolding eventEffect firstApplying ticksEffect
 returns-2 c = simp (c .unmoved .ensures, sym (c .before .before .awake .ensures) ∙ c .before .if1 .left, c .before .before .before .wide-timer .ensures)

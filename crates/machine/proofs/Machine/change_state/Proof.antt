@@ -1,63 +1,44 @@
-use mathlib.Core.Path.{refl, sym, _∙_}
 use Rattle.machine.specs.Sleep.{stateChanged}
 use borrow.Author.Needs.{needs}
 use Rattle.machine.proofs.Machine.change_state.Statement.{statement}
 use Rattle.machine.proofs.Machine.change_state.Tie as tie
-use Rattle.machine.proofs.Machine.change_state.Reads as reads
-use Rattle.machine.proofs.Machine.change_state.Lts as lts
-use Rattle.machine.proofs.Machine.complete.Reads as complete-reads
-use Rattle.machine.proofs.Machine.override_power.Reads as override-power-reads
-use Rattle.machine.proofs.Machine.restart_pressed.Reads as restart-pressed-reads
-use Rattle.machine.proofs.Machine.wake.Reads as wake-reads
 
--- src/sleeping.rt:135:31
 enum-known-c : tie.Need-enum-known-c
 enum-known-c c = search needs
 
--- src/sleeping.rt:135:42
 wake-requires : tie.Need-wake-requires
 wake-requires c κs = search needs
 
--- src/sleeping.rt:136:35
 enum-known-c-2 : tie.Need-enum-known-c-2
 enum-known-c-2 c = search needs
 
--- src/sleeping.rt:136:45
 complete-requires : tie.Need-complete-requires
 complete-requires c κs = search needs
 
--- src/sleeping.rt:137:38
 enum-told : tie.Need-enum-told
 enum-told c = search needs
 
--- src/sleeping.rt:137:38
 override-power-requires : tie.Need-override-power-requires
 override-power-requires c κs = search needs
 
--- src/sleeping.rt:138:37
 enum-told-2 : tie.Need-enum-told-2
 enum-told-2 c = search needs
 
--- src/sleeping.rt:138:37
 restart-pressed-requires : tie.Need-restart-pressed-requires
 restart-pressed-requires c κs = search needs
 
--- src/sleeping.rt:131:5
 returns : tie.Need-returns
 unfolding stateChanged
 returns c = simp (c .wake .ensures, c .before .before .c .given .1)
 
--- src/sleeping.rt:131:5
 returns-2 : tie.Need-returns-2
 unfolding stateChanged
 returns-2 c = simp (c .complete .ensures, c .before .before .c2 .given .1)
 
--- src/sleeping.rt:131:5
 returns-3 : tie.Need-returns-3
 unfolding stateChanged
 returns-3 c = simp (c .override-power .ensures, c .before .enum-told .given .1)
 
--- src/sleeping.rt:131:5
 returns-4 : tie.Need-returns-4
 unfolding stateChanged
 returns-4 c = simp (c .restart-pressed .ensures, c .before .enum-told2 .given .1)

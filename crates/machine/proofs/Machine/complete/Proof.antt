@@ -10,13 +10,6 @@ use Rattle.machine.specs.Sleep.{isSleeping, woken, pending, completed}
 use borrow.Author.Needs.{needs}
 use Rattle.machine.proofs.Machine.complete.Statement.{statement}
 use Rattle.machine.proofs.Machine.complete.Tie as tie
-use Rattle.machine.proofs.Machine.complete.Reads as reads
-use Rattle.machine.proofs.Machine.complete.Lts as lts
-use Rattle.bits.proofs.pick16.Reads as pick16-reads
-use Rattle.bits.proofs.pick8.Reads as pick8-reads
-use Rattle.machine.proofs.Machine.enter.Reads as enter-reads
-use Rattle.machine.proofs.sleeping.is_sleeping.Reads as is-sleeping-reads
-use Rattle.machine.proofs.sleeping.pending.Reads as pending-reads
 
 -- a choice inside the fields, for a choice between two machines
 within : (m : Machine) (state : ℕ) (t : Bool)
@@ -24,27 +17,21 @@ within : (m : Machine) (state : ℕ) (t : Bool)
 within m state true = refl
 within m state false = refl
 
--- src/sleeping.rt:86:21
 is-sleeping-requires : tie.Need-is-sleeping-requires
 is-sleeping-requires c κs = search needs
 
--- src/sleeping.rt:86:42
 pending-requires : tie.Need-pending-requires
 pending-requires c κs = search needs
 
--- src/sleeping.rt:87:13
 pick16-requires : tie.Need-pick16-requires
 pick16-requires c κs = search needs
 
--- src/sleeping.rt:88:25
 pick8-requires : tie.Need-pick8-requires
 pick8-requires c κs = search needs
 
--- src/sleeping.rt:88:9
 enter-requires : tie.Need-enter-requires
 enter-requires c κs = search needs
 
--- src/sleeping.rt:83:5
 returns : tie.Need-returns
 unfolding completed
 returns c =

@@ -1,27 +1,18 @@
-use mathlib.Core.Path.{refl, sym, _∙_}
 use Rattle.machine.specs.Gpe.{byteStored}
 use borrow.Author.Needs.{needs}
 use Rattle.machine.proofs.Machine.store_byte.Statement.{statement}
 use Rattle.machine.proofs.Machine.store_byte.Tie as tie
-use Rattle.machine.proofs.Machine.store_byte.Reads as reads
-use Rattle.machine.proofs.Machine.store_byte.Lts as lts
-use Rattle.machine.proofs.Machine.put_byte.Reads as put-byte-reads
-use Rattle.machine.proofs.Machine.walk_gpe.Reads as walk-gpe-reads
 
--- src/gpe.rt:140:13
 put-byte-requires : tie.Need-put-byte-requires
 put-byte-requires c κs = search needs
 
--- src/gpe.rt:141:20
 walk-gpe-requires : tie.Need-walk-gpe-requires
 walk-gpe-requires c κs = search needs
 
--- src/gpe.rt:135:5
 returns : tie.Need-returns
 unfolding byteStored
 returns c = simp (c .walk-gpe .ensures, c .before .before .put-byte .ensures, c .before .if1 .taken)
 
--- src/gpe.rt:135:5
 returns-2 : tie.Need-returns-2
 unfolding byteStored
 returns-2 c = simp (c .before .put-byte .ensures, c .if1 .left)

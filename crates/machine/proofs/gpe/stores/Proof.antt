@@ -1,52 +1,39 @@
-use mathlib.Core.Path.{refl, sym, _∙_}
 use Rattle.machine.specs.Gpe.{stores}
 use borrow.Author.Needs.{needs}
 use Rattle.machine.proofs.gpe.stores.Statement.{statement}
 use Rattle.machine.proofs.gpe.stores.Tie as tie
-use Rattle.machine.proofs.gpe.stores.Reads as reads
-use Rattle.machine.proofs.gpe.stores.Lts as lts
 
--- src/gpe.rt:81:27
 enum-told : tie.Need-enum-told
 enum-told c = search needs
 
--- src/gpe.rt:82:30
 enum-told-2 : tie.Need-enum-told-2
 enum-told-2 c = search needs
 
--- src/gpe.rt:83:29
 enum-told-3 : tie.Need-enum-told-3
 enum-told-3 c = search needs
 
--- src/gpe.rt:84:30
 enum-told-4 : tie.Need-enum-told-4
 enum-told-4 c = search needs
 
--- src/gpe.rt:85:29
 enum-told-5 : tie.Need-enum-told-5
 enum-told-5 c = search needs
 
--- src/gpe.rt:77:1
 returns : tie.Need-returns
 unfolding stores
 returns c = simp (c .enum-told .given .1)
 
--- src/gpe.rt:77:1
 returns-2 : tie.Need-returns-2
 unfolding stores
 returns-2 c = simp (c .enum-told2 .given .1)
 
--- src/gpe.rt:77:1
 returns-3 : tie.Need-returns-3
 unfolding stores
 returns-3 c = simp (c .enum-told3 .given .1)
 
--- src/gpe.rt:77:1
 returns-4 : tie.Need-returns-4
 unfolding stores
 returns-4 c = simp (c .enum-told4 .given .1)
 
--- src/gpe.rt:77:1
 returns-5 : tie.Need-returns-5
 unfolding stores
 returns-5 c = simp (c .enum-told5 .given .1)
