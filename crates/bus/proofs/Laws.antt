@@ -9,12 +9,14 @@ use lib.Dec.{eqb}
 use Rattle.acpi.specs.Bits.{«ARB_DIS»}
 use Rattle.platform.specs.declared.settings.Settings.{Settings}
 use Rattle.bits.specs.Writes.{byteAt}
-use Rattle.registers.specs.Registers.{laneAt, oneByte, shown, inStatus, inEnable, statusAfter, enableAfter, coversLow, coversHigh, gpeHalf, inGpeStatus}
+use Rattle.registers.specs.Registers.{laneAt, oneByte, shown, inStatus, inEnable, statusAfter, enableAfter, coversLow, coversHigh, gpeHalf, gpeStsByte, inGpeStatus}
 use Rattle.machine.specs.declared.Machine.{Machine}
 use Rattle.machine.specs.declared.sleeping.NextState.the-variants as next
 use Rattle.machine.specs.Fields.{withCommand, withArbDis}
 use Rattle.machine.specs.Lines.{awake}
-use Rattle.machine.specs.Scalars.{scalarsOf}
+use Rattle.machine.specs.Scalars.{bare, scalarsOf}
+use Rattle.machine.specs.declared.scalars.Scalars.{Scalars}
+use Rattle.model.proofs.Effects.{control-bare, event-write-bare}
 use Rattle.model.specs.Answer.{firstApplying}
 use Rattle.model.specs.Bus.{wrongWidth, dataTooWide, leadsNowhere, allowed, isTimer, commandLost, readOf}
 use Rattle.model.specs.Control.{setsSlpEn, typAfter, completes, armedAfter, namedState, namesNone, bmRldAfter, gblRlsAfter, controlled}
@@ -79,7 +81,7 @@ module _ (m : Machine) (width offset written : ℕ) (x : Effect) where
   pub at-register : (r y : Register) → r ≡ y → allowed r width offset ≡ true → (allowed y width offset ≡ true → Ends y) → Ends r
   at-register r y e a f = rw e (f (rw e at a))
 
-  pub smi-refuses : m .«command_waits» ≡ true → x ≡ unmoved m answer.CommandWaits → allowed register.SmiCmd width offset ≡ true → Ends register.SmiCmd
+  pub smi-refuses : m .«command_waits» ≡ true → x ≡ unmoved (scalarsOf m) answer.CommandWaits → allowed register.SmiCmd width offset ≡ true → Ends register.SmiCmd
   unfolding registerWrite firstApplying leadsNowhere isTimer commandLost namesNone
   smi-refuses w q a =
       q ∙ rw a (ap (λ t. unlessRefused m (cond t answer.CommandWaits (answer.Done 0)) (writeEffect m register.SmiCmd width offset written)) (sym w))
@@ -94,11 +96,11 @@ module _ (m : Machine) (width offset written : ℕ) (x : Effect) where
   unfolding registerWrite firstApplying leadsNowhere isTimer commandLost namesNone writeEffect
   pm2-takes q a = rw a q
 
-  pub timer-refuses : x ≡ unmoved m answer.TimerWritten → allowed register.PmTmr width offset ≡ true → Ends register.PmTmr
+  pub timer-refuses : x ≡ unmoved (scalarsOf m) answer.TimerWritten → allowed register.PmTmr width offset ≡ true → Ends register.PmTmr
   unfolding registerWrite firstApplying leadsNowhere isTimer
   timer-refuses q a = rw a q
 
-  pub nowhere-refuses : x ≡ unmoved m answer.NoBlock → allowed register.Nowhere width offset ≡ true → Ends register.Nowhere
+  pub nowhere-refuses : x ≡ unmoved (scalarsOf m) answer.NoBlock → allowed register.Nowhere width offset ≡ true → Ends register.Nowhere
   unfolding registerWrite firstApplying leadsNowhere
   nowhere-refuses q a = q
 
@@ -107,12 +109,12 @@ module _ (m : Machine) (width offset written : ℕ) (x : Effect) where
     unfolding registerWrite firstApplying leadsNowhere isTimer commandLost namesNone writeEffect
     event-takes q a = rw a q
 
-    pub status-takes : inGpeStatus (m .settings) b offset ≡ true → x ≡ gpeWrite m (stsByte m b offset written)
+    pub status-takes : inGpeStatus (m .settings) b offset ≡ true → x ≡ gpeWrite (scalarsOf m) (stsByte (gpeStsByte m b offset) b offset written)
         → allowed (register.Gpe b) width offset ≡ true → Ends (register.Gpe b)
     unfolding registerWrite firstApplying leadsNowhere isTimer commandLost namesNone writeEffect
     status-takes t q a = rw (a, t) q
 
-    pub enable-takes : inGpeStatus (m .settings) b offset ≡ false → x ≡ gpeWrite m (enByte (m .settings) b offset written)
+    pub enable-takes : inGpeStatus (m .settings) b offset ≡ false → x ≡ gpeWrite (scalarsOf m) (enByte (m .settings) b offset written)
         → allowed (register.Gpe b) width offset ≡ true → Ends (register.Gpe b)
     unfolding registerWrite firstApplying leadsNowhere isTimer commandLost namesNone writeEffect
     enable-takes t q a = rw (a, t) q
@@ -122,7 +124,7 @@ module _ (m : Machine) (width offset written : ℕ) (x : Effect) where
     control-takes q a = q ∙ go (completes m b width offset written && eqb (namedState m b width offset written) 0) refl a
       where
         go : (t : Bool) → (completes m b width offset written && eqb (namedState m b width offset written) 0) ≡ t → allowed (register.Pm1Cnt b) width offset ≡ true
-            → cond t (unmoved m answer.NoSleepState) (done 0 (scalarsOf (controlled m b width offset written)) (completing m b width offset written))
+            → cond t (unmoved (scalarsOf m) answer.NoSleepState) (done 0 (scalarsOf (controlled m b width offset written)) (completing m b width offset written))
             ≡ registerWrite m (register.Pm1Cnt b) width offset written
         go true e a = rw (a, e) refl
         go false e a = rw (a, e) refl
@@ -139,22 +141,22 @@ module _ (m : Machine) (a : Access) (written : ℕ) (place : Place) (leads : pla
   unfolding effectOf answerTo registerAt offsetAt
   write-at q = q ∙ ap (λ (p : Place). writing m (p .register) (a .width) (p .offset) written) leads
 
-  pub write-asleep : awake m ≡ false → x ≡ unmoved m answer.Asleep → x ≡ effectOf m (step.Write a written)
+  pub write-asleep : awake m ≡ false → x ≡ unmoved (scalarsOf m) answer.Asleep → x ≡ effectOf m (step.Write a written)
   unfolding firstApplying
   write-asleep w q = write-at (rw w q)
 
   module _ (w : awake m ≡ true) where
-    pub write-wrong-width : wrongWidth (a .width) ≡ true → x ≡ unmoved m answer.WrongWidth → x ≡ effectOf m (step.Write a written)
+    pub write-wrong-width : wrongWidth (a .width) ≡ true → x ≡ unmoved (scalarsOf m) answer.WrongWidth → x ≡ effectOf m (step.Write a written)
     unfolding firstApplying
     write-wrong-width e q = write-at (rw (w, e) q)
 
     module _ (right : wrongWidth (a .width) ≡ false) where
-      pub write-too-wide : dataTooWide (a .width) written ≡ true → x ≡ unmoved m answer.DataTooWide → x ≡ effectOf m (step.Write a written)
+      pub write-too-wide : dataTooWide (a .width) written ≡ true → x ≡ unmoved (scalarsOf m) answer.DataTooWide → x ≡ effectOf m (step.Write a written)
       unfolding firstApplying
       write-too-wide e q = write-at (rw (w, right, e) q)
 
       module _ (fit : dataTooWide (a .width) written ≡ false) where
-        pub write-not-allowed : allowed (place .register) (a .width) (place .offset) ≡ false → x ≡ unmoved m answer.NotAllowed
+        pub write-not-allowed : allowed (place .register) (a .width) (place .offset) ≡ false → x ≡ unmoved (scalarsOf m) answer.NotAllowed
             → x ≡ effectOf m (step.Write a written)
         unfolding firstApplying
         write-not-allowed e q = write-at (rw (w, right, fit, refused-leads (place .register) (a .width) (place .offset) e, e) q)
@@ -223,3 +225,14 @@ module _ (m : Machine) (b : Bool) (width offset written : ℕ) (x : Effect) (byt
       ∙ ap (λ (y : Bytes). controlWrite m b (y .width) (y .offset) written) s
       ∙ sym (control-write-past m register.Nowhere b 1 2 written (omega arith))
       ∙ control-write-past m register.Nowhere b width offset written h
+
+-- ---- what the machine's settings and scalars give is the machine's
+
+module _ (m : Machine) (s : Scalars) (b : Bool) (width offset written : ℕ) (e : s ≡ scalarsOf m) where
+  pub machine-control : (x : Effect) → x ≡ controlWrite (bare (m .settings) s) b width offset written → x ≡ controlWrite m b width offset written
+  machine-control x d =
+      d ∙ ap (λ (y : Scalars). controlWrite (bare (m .settings) y) b width offset written) e ∙ control-bare m b width offset written
+
+  pub machine-event : (x : Scalars) → x ≡ eventWrite (bare (m .settings) s) b width offset written → x ≡ eventWrite m b width offset written
+  machine-event x d =
+      d ∙ ap (λ (y : Scalars). eventWrite (bare (m .settings) y) b width offset written) e ∙ event-write-bare m b width offset written

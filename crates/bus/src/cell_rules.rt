@@ -15,10 +15,14 @@ use registers::read_high;
 use registers::read_low;
 ghost use mathlib.Core.Path.{_≡_};
 ghost use mathlib.Core.Bool.{true};
+ghost use Prim.Native.Nat.{_%_, _^_};
+ghost use Rattle.clock.specs.Clock.{counterBits};
+ghost use Rattle.platform.specs.Fitted.{wideTimer};
 ghost use Rattle.bus.specs.GpeBytes.{gpeNumber};
 ghost use Rattle.machine.specs.Fields.{withEvent, withCommand, withArbDis};
-ghost use Rattle.machine.specs.Scalars.{scalarsOf};
-ghost use Rattle.model.specs.Bus.{allowed, timerRegister, readOf};
+ghost use Rattle.machine.specs.PowerOn.{noSettings};
+ghost use Rattle.machine.specs.Scalars.{bare, scalarsOf};
+ghost use Rattle.model.specs.Bus.{allowed, readOf};
 ghost use Rattle.model.specs.Effect.{stsArray, enArray, stsByte, enByte, gpeWrite, eventWrite, registerWrite};
 
 // A GPE block's bytes as cells, since a machine has fewer than 256 of each: status bytes from 0 on, enable bytes from 256 on.
@@ -34,11 +38,10 @@ fn gpe_number(s: Settings, b: bool, offset: u64) -> u64
 }
 
 // PM_TMR: TMR_VAL, and E_TMR_VAL above it, which is zero where the counter has 24 bits.
-fn timer_register(m: Machine) -> u32
-    ensures { λ r. ⌜ r ≡ timerRegister m ⌝ }
+fn timer_register(s: Settings, counter: u32) -> u32
+    ensures { λ r. ⌜ r ≡ counter % 2 ^ counterBits (wideTimer s) ⌝ }
 {
-    let s = m.settings;
-    pick32(platform::wide_timer(s), m.counter, m.counter % 0x1000000)
+    pick32(platform::wide_timer(s), counter, counter % 0x1000000)
 }
 
 pub(crate) fn read_cells(m: Machine, r: Register, width: u32, offset: u64) -> u32
@@ -48,8 +51,8 @@ pub(crate) fn read_cells(m: Machine, r: Register, width: u32, offset: u64) -> u3
     match r {
         Register::SmiCmd => 0,
         Register::Pm1Evt(b) => {
-            let sts = registers::status_register(m, b) as u32;
-            let en = registers::enable_register(m, b) as u32;
+            let sts = registers::status_register(s, m.pm1_sts, b) as u32;
+            let en = registers::enable_register(s, m.pm1_en, b) as u32;
             match offset {
                 0 => read_low(width, sts),
                 1 => read_high(sts),
@@ -59,7 +62,7 @@ pub(crate) fn read_cells(m: Machine, r: Register, width: u32, offset: u64) -> u3
             }
         }
         Register::Pm1Cnt(b) => {
-            let cnt = registers::control_register(m, b);
+            let cnt = registers::control_register(s, m.scalars(), b);
             match offset {
                 0 => read_low(width, cnt),
                 1 => read_high(cnt),
@@ -67,46 +70,54 @@ pub(crate) fn read_cells(m: Machine, r: Register, width: u32, offset: u64) -> u3
             }
         }
         Register::Pm2Cnt => pick32(m.arb_dis, ARB_DIS_SET, 0),
-        Register::PmTmr => timer_register(m),
+        Register::PmTmr => timer_register(s, m.counter),
         Register::Gpe(b) => {
             let number = gpe_number(s, b, offset);
             match number {
-                0..=255 => registers::gpe_sts_byte(m, b, offset) as u32,
-                _ => registers::gpe_en_byte(m, b, offset) as u32,
+                0..=255 => {
+                    let sts0 = m.gpe0_sts;
+                    let sts1 = m.gpe1_sts;
+                    registers::gpe_byte(sts0, sts1, b, offset) as u32
+                }
+                _ => {
+                    let en0 = m.gpe0_en;
+                    let en1 = m.gpe1_en;
+                    registers::gpe_byte(en0, en1, b, registers::past_status(s, b, offset)) as u32
+                }
             }
         }
         Register::Nowhere => 0,
     }
 }
 
-fn with_event(m: Machine, sts: u16, en: u16) -> Scalars
-    ensures { λ r. ⌜ r ≡ scalarsOf (withEvent m sts en) ⌝ }
+fn with_event(x: Scalars, sts: u16, en: u16) -> Scalars
+    ensures { λ r. ⌜ r ≡ scalarsOf (withEvent (bare noSettings x) sts en) ⌝ }
 {
-    let mut x = m.scalars();
-    x.pm1_sts = sts;
-    x.pm1_en = en;
-    x
+    let mut next = x.copied();
+    next.pm1_sts = sts;
+    next.pm1_en = en;
+    next
 }
 
 // A command write latches the byte.
-fn latch(m: Machine, command: u8) -> Scalars
-    ensures { λ r. ⌜ r ≡ scalarsOf (withCommand m true command) ⌝ }
+fn latch(x: Scalars, command: u8) -> Scalars
+    ensures { λ r. ⌜ r ≡ scalarsOf (withCommand (bare noSettings x) true command) ⌝ }
 {
-    let mut x = m.scalars();
-    x.command_waits = true;
-    x.command = command;
-    x
+    let mut next = x.copied();
+    next.command_waits = true;
+    next.command = command;
+    next
 }
 
 // PM2 with ARB_DIS set.
 const ARB_DIS_SET: u32 = 1 << ARB_DIS;
 
-fn with_arb_dis(m: Machine, arb_dis: bool) -> Scalars
-    ensures { λ r. ⌜ r ≡ scalarsOf (withArbDis m «arb_dis») ⌝ }
+fn with_arb_dis(x: Scalars, arb_dis: bool) -> Scalars
+    ensures { λ r. ⌜ r ≡ scalarsOf (withArbDis (bare noSettings x) «arb_dis») ⌝ }
 {
-    let mut x = m.scalars();
-    x.arb_dis = arb_dis;
-    x
+    let mut next = x.copied();
+    next.arb_dis = arb_dis;
+    next
 }
 
 // The block's status array, and its enable array.
@@ -130,13 +141,13 @@ fn en_array(b: bool) -> GpeArray
     }
 }
 
-fn sts_byte(m: Machine, b: bool, offset: u64, written: u32) -> GpeStore
-    ensures { λ r. ⌜ r ≡ stsByte m b offset written ⌝ }
+fn sts_byte(sts: u8, b: bool, offset: u64, written: u32) -> GpeStore
+    ensures { λ r. ⌜ r ≡ stsByte sts b offset written ⌝ }
 {
     let array = sts_array(b);
     GpeStore {
         place: offset,
-        byte: registers::gpe_sts_cleared(m, b, offset, written),
+        byte: registers::gpe_sts_cleared(sts, written),
         walks: true,
         array,
     }
@@ -154,41 +165,40 @@ fn en_byte(s: Settings, b: bool, offset: u64, written: u32) -> GpeStore
     }
 }
 
-fn stores(m: Machine, store: GpeStore) -> Effect
-    ensures { λ r. ⌜ r ≡ gpeWrite m store ⌝ }
+fn stores(scalars: Scalars, store: GpeStore) -> Effect
+    ensures { λ r. ⌜ r ≡ gpeWrite scalars store ⌝ }
 {
     Effect {
         answer: Answer::Done(0),
-        scalars: m.scalars(),
+        scalars,
         store,
         next: NextState::Same,
     }
 }
 
-fn event_written(m: Machine, b: bool, width: u32, offset: u64, written: u32) -> Scalars
-    ensures { λ r. ⌜ r ≡ eventWrite m b width offset written ⌝ }
+fn event_written(s: Settings, x: Scalars, b: bool, width: u32, offset: u64, written: u32) -> Scalars
+    ensures { λ r. ⌜ r ≡ eventWrite (bare s x) b width offset written ⌝ }
 {
-    let s = m.settings;
-    let sts = m.pm1_sts;
-    let en = m.pm1_en;
+    let sts = x.pm1_sts;
+    let en = x.pm1_en;
     match offset {
         0 => {
-            let clearable = registers::clearable(m, b);
-            with_event(m, registers::status_low(sts, clearable, width, written), en)
+            let clearable = registers::clearable(s, b);
+            with_event(x, registers::status_low(sts, clearable, width, written), en)
         }
         1 => {
-            let clearable = registers::clearable(m, b);
-            with_event(m, registers::status_high(sts, clearable, written), en)
+            let clearable = registers::clearable(s, b);
+            with_event(x, registers::status_high(sts, clearable, written), en)
         }
         2 => {
             let enables = registers::enable_in(s, b);
-            with_event(m, sts, registers::enable_low(en, enables, width, written))
+            with_event(x, sts, registers::enable_low(en, enables, width, written))
         }
         3 => {
             let enables = registers::enable_in(s, b);
-            with_event(m, sts, registers::enable_high(en, enables, written))
+            with_event(x, sts, registers::enable_high(en, enables, written))
         }
-        _ => m.scalars(),
+        _ => x,
     }
 }
 
@@ -207,13 +217,17 @@ pub(crate) fn write_cells(m: Machine, r: Register, width: u32, offset: u64, writ
     match r {
         Register::SmiCmd => {
             if m.command_waits {
-                return model::unmoved(m, Answer::CommandWaits);
+                return model::unmoved(m.scalars(), Answer::CommandWaits);
             }
-            model::done(0, latch(m, registers::low_byte(written)), NextState::Same)
+            model::done(
+                0,
+                latch(m.scalars(), registers::low_byte(written)),
+                NextState::Same,
+            )
         }
         Register::Pm1Evt(b) => model::done(
             0,
-            event_written(m, b, width, offset, written),
+            event_written(s, m.scalars(), b, width, offset, written),
             NextState::Same,
         ),
         Register::Pm1Cnt(b) => {
@@ -228,21 +242,26 @@ pub(crate) fn write_cells(m: Machine, r: Register, width: u32, offset: u64, writ
                     offset: 2,
                 },
             };
-            control::write(m, b, bytes.width, bytes.offset, written)
+            control::write(s, m.scalars(), b, bytes.width, bytes.offset, written)
         }
         Register::Pm2Cnt => model::done(
             0,
-            with_arb_dis(m, written / ARB_DIS_SET % 2 == 1),
+            with_arb_dis(m.scalars(), written / ARB_DIS_SET % 2 == 1),
             NextState::Same,
         ),
-        Register::PmTmr => model::unmoved(m, Answer::TimerWritten),
+        Register::PmTmr => model::unmoved(m.scalars(), Answer::TimerWritten),
         Register::Gpe(b) => {
             let number = gpe_number(s, b, offset);
             match number {
-                0..=255 => stores(m, sts_byte(m, b, offset, written)),
-                _ => stores(m, en_byte(s, b, offset, written)),
+                0..=255 => {
+                    let sts0 = m.gpe0_sts;
+                    let sts1 = m.gpe1_sts;
+                    let sts = registers::gpe_byte(sts0, sts1, b, offset);
+                    stores(m.scalars(), sts_byte(sts, b, offset, written))
+                }
+                _ => stores(m.scalars(), en_byte(s, b, offset, written)),
             }
         }
-        Register::Nowhere => model::unmoved(m, Answer::NoBlock),
+        Register::Nowhere => model::unmoved(m.scalars(), Answer::NoBlock),
     }
 }

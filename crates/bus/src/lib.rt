@@ -30,7 +30,7 @@ ghost use Rattle.model.specs.declared.Step.the-variants as step;
 fn read_answer(m: Machine, r: Register, width: u32, offset: u64) -> Answer
     ensures { λ result. ⌜ result ≡ firstApplying (readRefusals m r width offset) (answer.Done (readOf m r width offset)) ⌝ }
 {
-    if awake(m) {
+    if awake(m.state) {
         if wrong_width(width) {
             return Answer::WrongWidth;
         }
@@ -53,7 +53,7 @@ fn read(m: Machine, access: Access, place: Place) -> Effect
     ensures { λ r. ⌜ r ≡ effectOf m (step.Read access) ⌝ }
 {
     let r = place.register;
-    model::unmoved(m, read_answer(m, r, access.width, place.offset))
+    model::unmoved(m.scalars(), read_answer(m, r, access.width, place.offset))
 }
 
 // What is written; wider data is refused, so no bit is lost.
@@ -71,20 +71,20 @@ fn write(m: Machine, access: Access, place: Place, written: u64) -> Effect
     let width = access.width;
     let r = place.register;
     let offset = place.offset;
-    if awake(m) {
+    if awake(m.state) {
         if wrong_width(width) {
-            return model::unmoved(m, Answer::WrongWidth);
+            return model::unmoved(m.scalars(), Answer::WrongWidth);
         }
         if data_too_wide(width, written) {
-            return model::unmoved(m, Answer::DataTooWide);
+            return model::unmoved(m.scalars(), Answer::DataTooWide);
         }
         if allowed(r, width, offset) {
             write_cells(m, r, width, offset, low(written))
         } else {
-            model::unmoved(m, Answer::NotAllowed)
+            model::unmoved(m.scalars(), Answer::NotAllowed)
         }
     } else {
-        model::unmoved(m, Answer::Asleep)
+        model::unmoved(m.scalars(), Answer::Asleep)
     }
 }
 

@@ -1,7 +1,6 @@
 // The power and sleep buttons, the alarm, and PCIe wake.
 use acpi::PCIEXP_WAKE_STS;
 use acpi::PWRBTN_STS;
-use machine::Machine;
 use machine::NextState;
 use machine::PCIEXP_WAKE;
 use machine::PWRBTN;
@@ -16,14 +15,16 @@ use model::Answer;
 use model::Effect;
 use platform::Settings;
 ghost use mathlib.Core.Path.{_≡_};
-ghost use mathlib.Core.Bool.{true};
-ghost use Rattle.machine.specs.Status.{pwrbtnBit};
+ghost use mathlib.Core.Bool.{true, not, _&&_};
+ghost use Rattle.machine.specs.Status.{hasBit, pwrbtnBit, pciexpWakeBit};
+ghost use Rattle.machine.specs.Sleep.{isSleeping};
 ghost use Rattle.machine.specs.Fields.{withButton};
-ghost use Rattle.machine.specs.Scalars.{scalarsOf};
+ghost use Rattle.machine.specs.PowerOn.{noSettings};
+ghost use Rattle.machine.specs.Scalars.{bare, scalarsOf};
 ghost use Prim.Native.Nat.{_^_};
 ghost use Rattle.model.specs.Effect.{wakesIf, pressWakes, signalEffect, pcieWakeEffect, eventEffect};
 ghost use Rattle.model.specs.EventKinds as kind;
-ghost use Rattle.model.specs.Events.{pm1, eventBit, fits, raised, inS5, releaseOf, signalWakes, pcieWakes};
+ghost use Rattle.model.specs.Events.{pm1, eventBit, fits, raised, isS5, releaseOf, signalWakes};
 ghost use Rattle.model.specs.declared.Event.the-variants as event;
 
 pub(crate) fn fits(s: Settings, bit: u16) -> bool
@@ -33,25 +34,25 @@ pub(crate) fn fits(s: Settings, bit: u16) -> bool
 }
 
 // With these status bits set.
-pub(crate) fn raise(m: Machine, bits: u16) -> Scalars
-    ensures { λ r. ⌜ r ≡ scalarsOf (raised m bits) ⌝ }
+pub(crate) fn raise(x: Scalars, bits: u16) -> Scalars
+    ensures { λ r. ⌜ r ≡ scalarsOf (raised (bare noSettings x) bits) ⌝ }
 {
-    let mut x = m.scalars();
-    x.pm1_sts = x.pm1_sts | bits;
-    x
+    let mut next = x.copied();
+    next.pm1_sts = x.pm1_sts | bits;
+    next
 }
 
-pub(crate) fn in_s5(m: Machine) -> bool
-    ensures { λ r. ⌜ r ≡ inS5 m ⌝ }
+pub(crate) fn is_s5(state: u8) -> bool
+    ensures { λ r. ⌜ r ≡ isS5 state ⌝ }
 {
-    m.state == 5
+    state == 5
 }
 
 // An event in S1 to S4 that wakes, or does not.
-pub(crate) fn wakes_if(m: Machine, source: WakeSource, test: bool) -> NextState
-    ensures { λ r. ⌜ r ≡ wakesIf m source test ⌝ }
+pub(crate) fn wakes_if(state: u8, source: WakeSource, test: bool) -> NextState
+    ensures { λ r. ⌜ r ≡ wakesIf state source test ⌝ }
 {
-    if is_sleeping(m.state) & test {
+    if is_sleeping(state) & test {
         NextState::Changed(StateChange::Wake(source))
     } else {
         NextState::Same
@@ -59,143 +60,138 @@ pub(crate) fn wakes_if(m: Machine, source: WakeSource, test: bool) -> NextState
 }
 
 // A press wakes: from S5 to a machine started anew, from S1 to S4 with its registers kept.
-fn press_wakes(m: Machine) -> NextState
-    ensures { λ r. ⌜ r ≡ pressWakes m ⌝ }
+fn press_wakes(state: u8) -> NextState
+    ensures { λ r. ⌜ r ≡ pressWakes state ⌝ }
 {
-    if in_s5(m) {
+    if is_s5(state) {
         NextState::Changed(StateChange::Restart)
     } else {
-        wakes_if(m, WakeSource::Pm1(PWRBTN_STS), true)
+        wakes_if(state, WakeSource::Pm1(PWRBTN_STS), true)
     }
 }
 
-fn button_down(m: Machine) -> Scalars
-    ensures { λ r. ⌜ r ≡ scalarsOf (withButton (raised m pwrbtnBit) true 0) ⌝ }
+fn button_down(x: Scalars) -> Scalars
+    ensures { λ r. ⌜ r ≡ scalarsOf (withButton (raised (bare noSettings x) pwrbtnBit) true 0) ⌝ }
 {
-    let mut x = m.scalars();
-    x.pm1_sts = x.pm1_sts | PWRBTN;
-    x.button = true;
-    x.hold = 0;
-    x
+    let mut next = x.copied();
+    next.pm1_sts = x.pm1_sts | PWRBTN;
+    next.button = true;
+    next.hold = 0;
+    next
 }
 
 // 28 and 30; else the button goes down.
-pub(crate) fn press(m: Machine) -> Effect
-    ensures { λ r. ⌜ r ≡ eventEffect m (eventBit event.Press) kind.press ⌝ }
+pub(crate) fn press(s: Settings, x: Scalars) -> Effect
+    ensures { λ r. ⌜ r ≡ eventEffect (bare s x) (eventBit event.Press) kind.press ⌝ }
 {
-    let s = m.settings;
     if fits(s, PWRBTN) {
-        if m.button {
-            model::unmoved(m, Answer::ButtonAlready)
+        if x.button {
+            model::unmoved(x, Answer::ButtonAlready)
         } else {
-            model::done(0, button_down(m), press_wakes(m))
+            model::done(0, button_down(x), press_wakes(x.state))
         }
     } else {
-        model::unmoved(m, Answer::NotFitted)
+        model::unmoved(x, Answer::NotFitted)
     }
 }
 
 // The button goes up; hold is kept.
-fn button_up(m: Machine) -> Scalars
-    ensures { λ r. ⌜ r ≡ scalarsOf (releaseOf m) ⌝ }
+fn button_up(x: Scalars) -> Scalars
+    ensures { λ r. ⌜ r ≡ scalarsOf (releaseOf (bare noSettings x)) ⌝ }
 {
-    let mut x = m.scalars();
-    x.button = false;
-    x
+    let mut next = x.copied();
+    next.button = false;
+    next
 }
 
 // 28 and 30; else it goes up.
-pub(crate) fn release(m: Machine) -> Effect
-    ensures { λ r. ⌜ r ≡ eventEffect m (eventBit event.Release) kind.release ⌝ }
+pub(crate) fn release(s: Settings, x: Scalars) -> Effect
+    ensures { λ r. ⌜ r ≡ eventEffect (bare s x) (eventBit event.Release) kind.release ⌝ }
 {
-    let s = m.settings;
     if fits(s, PWRBTN) {
-        if m.button {
-            model::done(0, button_up(m), NextState::Same)
+        if x.button {
+            model::done(0, button_up(x), NextState::Same)
         } else {
-            model::unmoved(m, Answer::ButtonAlready)
+            model::unmoved(x, Answer::ButtonAlready)
         }
     } else {
-        model::unmoved(m, Answer::NotFitted)
+        model::unmoved(x, Answer::NotFitted)
     }
 }
 
 // Its enable, SLPBTN_EN or RTC_EN, is set, and it wakes the state.
-fn signal_wakes(m: Machine, bit: u16) -> bool
-    ensures { λ r. ⌜ r ≡ signalWakes m bit ⌝ }
+fn signal_wakes(s: Settings, x: Scalars, bit: u16) -> bool
+    ensures { λ r. ⌜ r ≡ signalWakes (bare s x) bit ⌝ }
 {
-    let s = m.settings;
-    has_bit(m.pm1_en, bit) & has_bit(wake_bits(s, m.state), bit)
+    has_bit(x.pm1_en, bit) & has_bit(wake_bits(s, x.state), bit)
 }
 
 // Its bit, with the number i, is set, and may wake. In S5 it does nothing.
-fn raise_signal(m: Machine, i: u8, bit: u16) -> Effect
+fn raise_signal(s: Settings, x: Scalars, i: u8, bit: u16) -> Effect
     requires { ⌜ bit ≡ 2 ^ i ⌝ }
-    ensures { λ r. ⌜ r ≡ signalEffect m (pm1 i) ⌝ }
+    ensures { λ r. ⌜ r ≡ signalEffect (bare s x) (pm1 i) ⌝ }
 {
-    if in_s5(m) {
-        model::unmoved(m, Answer::Done(0))
+    if is_s5(x.state) {
+        model::unmoved(x, Answer::Done(0))
     } else {
         model::done(
             0,
-            raise(m, bit),
-            wakes_if(m, WakeSource::Pm1(i), signal_wakes(m, bit)),
+            raise(x, bit),
+            wakes_if(x.state, WakeSource::Pm1(i), signal_wakes(s, x, bit)),
         )
     }
 }
 
 // A sleep press or an alarm: 28, or what it does.
-pub(crate) fn signal(m: Machine, i: u8, bit: u16) -> Effect
+pub(crate) fn signal(s: Settings, x: Scalars, i: u8, bit: u16) -> Effect
     requires { ⌜ bit ≡ 2 ^ i ⌝ }
-    ensures { λ r. ⌜ r ≡ eventEffect m (pm1 i) kind.signal ⌝ }
+    ensures { λ r. ⌜ r ≡ eventEffect (bare s x) (pm1 i) kind.signal ⌝ }
 {
-    let s = m.settings;
     if fits(s, bit) {
-        raise_signal(m, i, bit)
+        raise_signal(s, x, i, bit)
     } else {
-        model::unmoved(m, Answer::NotFitted)
+        model::unmoved(x, Answer::NotFitted)
     }
 }
 
 // In S1 to S4, and PCIEXP_WAKE_DIS, its partner in the enables, is clear.
-fn pcie_wakes(m: Machine) -> bool
-    ensures { λ r. ⌜ r ≡ pcieWakes m ⌝ }
+fn pcie_wakes(state: u8, pm1_en: u16) -> bool
+    ensures { λ r. ⌜ r ≡ (isSleeping state && not (hasBit «pm1_en» pciexpWakeBit)) ⌝ }
 {
-    is_sleeping(m.state) & !has_bit(m.pm1_en, PCIEXP_WAKE)
+    is_sleeping(state) & !has_bit(pm1_en, PCIEXP_WAKE)
 }
 
 // Its bit is set and the machine wakes, or nothing happens.
-fn wake_by_pcie(m: Machine) -> Effect
-    ensures { λ r. ⌜ r ≡ pcieWakeEffect m ⌝ }
+fn wake_by_pcie(x: Scalars) -> Effect
+    ensures { λ r. ⌜ r ≡ pcieWakeEffect (bare noSettings x) ⌝ }
 {
-    if pcie_wakes(m) {
+    if pcie_wakes(x.state, x.pm1_en) {
         let wakes = NextState::Changed(StateChange::Wake(WakeSource::Pm1(PCIEXP_WAKE_STS)));
-        model::done(0, raise(m, PCIEXP_WAKE), wakes)
+        model::done(0, raise(x, PCIEXP_WAKE), wakes)
     } else {
-        model::unmoved(m, Answer::Done(0))
+        model::unmoved(x, Answer::Done(0))
     }
 }
 
 // 28, or what it does.
-pub(crate) fn pcie_wake(m: Machine) -> Effect
-    ensures { λ r. ⌜ r ≡ eventEffect m (eventBit event.PcieWake) kind.pcieWake ⌝ }
+pub(crate) fn pcie_wake(s: Settings, x: Scalars) -> Effect
+    ensures { λ r. ⌜ r ≡ eventEffect (bare s x) (eventBit event.PcieWake) kind.pcieWake ⌝ }
 {
-    let s = m.settings;
     if fits(s, PCIEXP_WAKE) {
-        wake_by_pcie(m)
+        wake_by_pcie(x)
     } else {
-        model::unmoved(m, Answer::NotFitted)
+        model::unmoved(x, Answer::NotFitted)
     }
 }
 
 // Bus master and unlock: 20, or the bit is set.
-pub(crate) fn notice(m: Machine, i: u8, bit: u16) -> Effect
+pub(crate) fn notice(x: Scalars, i: u8, bit: u16) -> Effect
     requires { ⌜ bit ≡ 2 ^ i ⌝ }
-    ensures { λ r. ⌜ r ≡ eventEffect m (pm1 i) kind.notice ⌝ }
+    ensures { λ r. ⌜ r ≡ eventEffect (bare noSettings x) (pm1 i) kind.notice ⌝ }
 {
-    if awake(m) {
-        model::done(0, raise(m, bit), NextState::Same)
+    if awake(x.state) {
+        model::done(0, raise(x, bit), NextState::Same)
     } else {
-        model::unmoved(m, Answer::Asleep)
+        model::unmoved(x, Answer::Asleep)
     }
 }

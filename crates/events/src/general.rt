@@ -1,5 +1,5 @@
 // General events.
-use crate::buttons::in_s5;
+use crate::buttons::is_s5;
 use crate::buttons::wakes_if;
 use machine::GPE_BYTES;
 use machine::GpeArray;
@@ -16,10 +16,11 @@ ghost use mathlib.Core.Bool.{_||_};
 ghost use Prim.Native.Nat.{_-_, _/_, _^_, _<_};
 ghost use lib.ListN.{getD};
 ghost use Rattle.machine.specs.Fields.{withGpePending};
-ghost use Rattle.machine.specs.Scalars.{scalarsOf};
+ghost use Rattle.machine.specs.PowerOn.{noSettings};
+ghost use Rattle.machine.specs.Scalars.{bare, scalarsOf};
 ghost use Rattle.model.specs.Effect.{generalByte, generalEffect, eventEffect};
 ghost use Rattle.model.specs.EventKinds as kind;
-ghost use Rattle.model.specs.Events.{gpe, inGpe0, inGpe1, numberIn, isEnabled, generalEnabled};
+ghost use Rattle.model.specs.Events.{gpe, inGpe0, inGpe1, numberIn, isEnabled, enabledIn};
 
 fn in_gpe0(s: Settings, k: u32) -> bool
     ensures { λ r. ⌜ r ≡ inGpe0 s k ⌝ }
@@ -80,12 +81,9 @@ fn is_enabled(xs: [u8; GPE_BYTES], k: u64) -> bool
     has_bit8(byte_of(xs, k), bit8(k % 8))
 }
 
-fn general_enabled(m: Machine, k: u32) -> bool
-    ensures { λ r. ⌜ r ≡ generalEnabled m k ⌝ }
+fn general_enabled(s: Settings, en0: [u8; GPE_BYTES], en1: [u8; GPE_BYTES], k: u32) -> bool
+    ensures { λ r. ⌜ r ≡ enabledIn s en0 en1 k ⌝ }
 {
-    let s = m.settings;
-    let en0 = m.gpe0_en;
-    let en1 = m.gpe1_en;
     if in_gpe0(s, k) {
         is_enabled(en0, k as u64)
     } else {
@@ -94,22 +92,18 @@ fn general_enabled(m: Machine, k: u32) -> bool
 }
 
 // Where it is enabled, one is pending.
-fn pending_raised(m: Machine, k: u32) -> Scalars
-    ensures { λ r. ⌜ r ≡ scalarsOf (withGpePending m (generalEnabled m k || m .«gpe_pending»)) ⌝ }
+fn pending_raised(x: Scalars, enabled: bool) -> Scalars
+    ensures { λ r. ⌜ r ≡ scalarsOf (withGpePending (bare noSettings x) (enabled || x .«gpe_pending»)) ⌝ }
 {
-    let pending = general_enabled(m, k) | m.gpe_pending;
-    let mut x = m.scalars();
-    x.gpe_pending = pending;
-    x
+    let mut next = x.copied();
+    next.gpe_pending = enabled | x.gpe_pending;
+    next
 }
 
 // The status byte with event k's bit set, of GPE0 or else of GPE1.
-fn raised_byte(m: Machine, k: u32) -> GpeStore
-    ensures { λ r. ⌜ r ≡ generalByte m k ⌝ }
+fn raised_byte(s: Settings, sts0: [u8; GPE_BYTES], sts1: [u8; GPE_BYTES], k: u32) -> GpeStore
+    ensures { λ r. ⌜ r ≡ generalByte s sts0 sts1 k ⌝ }
 {
-    let s = m.settings;
-    let sts0 = m.gpe0_sts;
-    let sts1 = m.gpe1_sts;
     if in_gpe0(s, k) {
         let n = k as u64;
         let byte = byte_of(sts0, n) | bit8(n % 8);
@@ -135,12 +129,18 @@ fn raised_byte(m: Machine, k: u32) -> GpeStore
 fn raise_general(m: Machine, k: u32) -> Effect
     ensures { λ r. ⌜ r ≡ generalEffect m k ⌝ }
 {
-    if in_s5(m) {
-        model::unmoved(m, Answer::Done(0))
+    let s = m.settings;
+    if is_s5(m.state) {
+        model::unmoved(m.scalars(), Answer::Done(0))
     } else {
-        let scalars = pending_raised(m, k);
-        let store = raised_byte(m, k);
-        let next = wakes_if(m, WakeSource::Gpe(k), general_enabled(m, k));
+        let sts0 = m.gpe0_sts;
+        let en0 = m.gpe0_en;
+        let sts1 = m.gpe1_sts;
+        let en1 = m.gpe1_en;
+        let enabled = general_enabled(s, en0, en1, k);
+        let scalars = pending_raised(m.scalars(), enabled);
+        let store = raised_byte(s, sts0, sts1, k);
+        let next = wakes_if(m.state, WakeSource::Gpe(k), enabled);
         Effect {
             answer: Answer::Done(0),
             scalars,
@@ -158,6 +158,6 @@ pub(crate) fn general(m: Machine, k: u32) -> Effect
     if in_gpe0(s, k) | in_gpe1(s, k) {
         raise_general(m, k)
     } else {
-        model::unmoved(m, Answer::NoSuchEvent)
+        model::unmoved(m.scalars(), Answer::NoSuchEvent)
     }
 }

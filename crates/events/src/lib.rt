@@ -68,14 +68,15 @@ fn kind_of(e: Event) -> EventKind
 pub fn event(m: Machine, e: Event) -> Effect
     ensures { λ r. ⌜ r ≡ effectOf m (step.Event e) ⌝ }
 {
+    let s = m.settings;
     let kind = kind_of(e);
     match kind {
-        EventKind::Press => press(m),
-        EventKind::Release => release(m),
-        EventKind::Signal(bit) => signal(m, bit.number, bit.mask),
-        EventKind::PcieWake => pcie_wake(m),
-        EventKind::Notice(bit) => notice(m, bit.number, bit.mask),
+        EventKind::Press => press(s, m.scalars()),
+        EventKind::Release => release(s, m.scalars()),
+        EventKind::Signal(bit) => signal(s, m.scalars(), bit.number, bit.mask),
+        EventKind::PcieWake => pcie_wake(s, m.scalars()),
+        EventKind::Notice(bit) => notice(m.scalars(), bit.number, bit.mask),
         EventKind::General(k) => general(m, k),
-        EventKind::Ticks(n) => ticks(m, n),
+        EventKind::Ticks(n) => ticks(s, m.scalars(), n),
     }
 }

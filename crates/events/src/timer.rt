@@ -2,7 +2,6 @@
 use crate::buttons::fits;
 use bits::pick16;
 use clock::Clock;
-use machine::Machine;
 use machine::NextState;
 use machine::Scalars;
 use machine::StateChange;
@@ -13,7 +12,7 @@ use model::Effect;
 use platform::Settings;
 ghost use mathlib.Core.Path.{_≡_};
 ghost use Rattle.machine.specs.Fields.{withTime};
-ghost use Rattle.machine.specs.Scalars.{scalarsOf};
+ghost use Rattle.machine.specs.Scalars.{bare, scalarsOf};
 ghost use Rattle.model.specs.Effect.{overriddenIf, eventEffect};
 ghost use Rattle.model.specs.EventKinds as kind;
 ghost use Rattle.model.specs.Events.{eventBit, raised, tmrRaised};
@@ -26,16 +25,15 @@ fn tmr_raised(s: Settings, turns: u32) -> u16
 }
 
 // The scalars with a clock's counter, hold and turns.
-fn timed(m: Machine, t: Clock) -> Scalars
-    ensures { λ r. ⌜ r ≡ scalarsOf (withTime (raised m (tmrRaised (m .settings) (t .turns))) (t .counter) (t .hold)) ⌝ }
+fn timed(s: Settings, x: Scalars, t: Clock) -> Scalars
+    ensures { λ r. ⌜ r ≡ scalarsOf (withTime (raised (bare s x) (tmrRaised s (t .turns))) (t .counter) (t .hold)) ⌝ }
 {
-    let s = m.settings;
     let raised = tmr_raised(s, t.turns);
-    let mut x = m.scalars();
-    x.pm1_sts = x.pm1_sts | raised;
-    x.counter = t.counter;
-    x.hold = t.hold;
-    x
+    let mut next = x.copied();
+    next.pm1_sts = x.pm1_sts | raised;
+    next.counter = t.counter;
+    next.hold = t.hold;
+    next
 }
 
 fn overridden_if(off: bool) -> NextState
@@ -49,15 +47,14 @@ fn overridden_if(off: bool) -> NextState
 }
 
 // n ticks at once, in S0 only: how often the counter's top bit turned, and the machine after them.
-pub(crate) fn ticks(m: Machine, n: u32) -> Effect
-    ensures { λ r. ⌜ r ≡ eventEffect m (eventBit (event.Ticks n)) (kind.ticks n) ⌝ }
+pub(crate) fn ticks(s: Settings, x: Scalars, n: u32) -> Effect
+    ensures { λ r. ⌜ r ≡ eventEffect (bare s x) (eventBit (event.Ticks n)) (kind.ticks n) ⌝ }
 {
-    let s = m.settings;
     let wide = platform::wide_timer(s);
-    if awake(m) {
-        let t = clock::ticks(wide, m.button, s.power_override, m.counter, m.hold, n);
-        model::done(t.turns, timed(m, t), overridden_if(t.off))
+    if awake(x.state) {
+        let t = clock::ticks(wide, x.button, s.power_override, x.counter, x.hold, n);
+        model::done(t.turns, timed(s, x, t), overridden_if(t.off))
     } else {
-        model::unmoved(m, Answer::Done(0))
+        model::unmoved(x, Answer::Done(0))
     }
 }

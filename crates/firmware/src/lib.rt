@@ -1,63 +1,66 @@
 // Firmware steps.
-use machine::Machine;
 use machine::NextState;
 use machine::Scalars;
 use machine::awake;
 use model::Answer;
 use model::Effect;
+use platform::Settings;
 ghost use mathlib.Core.Path.{_≡_};
-ghost use Rattle.machine.specs.Scalars.{scalarsOf};
+ghost use Rattle.machine.specs.PowerOn.{noSettings};
+ghost use Rattle.machine.specs.Scalars.{bare, scalarsOf};
 ghost use Rattle.model.specs.Effect.{effectOf};
 ghost use Rattle.model.specs.Firmware.{isAcpiEnable, isAcpiDisable, sciEnAfter, enablesAfter, takeOf, dropOf};
 ghost use Rattle.model.specs.declared.Step.the-variants as step;
 
-fn is_acpi_enable(m: Machine) -> bool
-    ensures { λ r. ⌜ r ≡ isAcpiEnable m ⌝ }
+fn is_acpi_enable(s: Settings, x: Scalars) -> bool
+    ensures { λ r. ⌜ r ≡ isAcpiEnable (bare s x) ⌝ }
 {
-    let s = m.settings;
-    m.command == s.acpi_enable
+    x.command == s.acpi_enable
 }
 
-fn is_acpi_disable(m: Machine) -> bool
-    ensures { λ r. ⌜ r ≡ isAcpiDisable m ⌝ }
+fn is_acpi_disable(s: Settings, x: Scalars) -> bool
+    ensures { λ r. ⌜ r ≡ isAcpiDisable (bare s x) ⌝ }
 {
-    let s = m.settings;
-    m.command == s.acpi_disable
+    x.command == s.acpi_disable
 }
 
 // ACPI_ENABLE sets SCI_EN; ACPI_DISABLE clears it; others only leave.
-fn sci_en_after(m: Machine) -> bool
-    ensures { λ r. ⌜ r ≡ sciEnAfter m ⌝ }
+fn sci_en_after(s: Settings, x: Scalars) -> bool
+    ensures { λ r. ⌜ r ≡ sciEnAfter (bare s x) ⌝ }
 {
-    if is_acpi_enable(m) {
+    if is_acpi_enable(s, x) {
         true
     } else {
-        if is_acpi_disable(m) { false } else { m.sci_en }
+        if is_acpi_disable(s, x) {
+            false
+        } else {
+            x.sci_en
+        }
     }
 }
 
 // ACPI_ENABLE clears all PM1 enable cells, PCIEXP_WAKE_DIS too, if SCI_EN was clear.
-fn enables_after(m: Machine) -> u16
-    ensures { λ r. ⌜ r ≡ enablesAfter m ⌝ }
+fn enables_after(s: Settings, x: Scalars) -> u16
+    ensures { λ r. ⌜ r ≡ enablesAfter (bare s x) ⌝ }
 {
-    if is_acpi_enable(m) {
-        if m.sci_en { m.pm1_en } else { 0 }
+    if is_acpi_enable(s, x) {
+        if x.sci_en { x.pm1_en } else { 0 }
     } else {
-        m.pm1_en
+        x.pm1_en
     }
 }
 
-fn take_command(m: Machine) -> Scalars
-    ensures { λ r. ⌜ r ≡ scalarsOf (takeOf m) ⌝ }
+fn take_command(s: Settings, x: Scalars) -> Scalars
+    ensures { λ r. ⌜ r ≡ scalarsOf (takeOf (bare s x)) ⌝ }
 {
-    let en = enables_after(m);
-    let sci_en = sci_en_after(m);
-    let mut x = m.scalars();
-    x.pm1_en = en;
-    x.sci_en = sci_en;
-    x.command_waits = false;
-    x.command = 0;
-    x
+    let en = enables_after(s, x);
+    let sci_en = sci_en_after(s, x);
+    let mut next = x.copied();
+    next.pm1_en = en;
+    next.sci_en = sci_en;
+    next.command_waits = false;
+    next.command = 0;
+    next
 }
 
 fn wide(x: u8) -> u32
@@ -67,35 +70,35 @@ fn wide(x: u8) -> u32
 }
 
 // The firmware takes the waiting command: 20 and 31; else the command.
-pub fn take(m: Machine) -> Effect
-    ensures { λ r. ⌜ r ≡ effectOf m step.Take ⌝ }
+pub fn take(s: Settings, x: Scalars) -> Effect
+    ensures { λ r. ⌜ r ≡ effectOf (bare s x) step.Take ⌝ }
 {
-    if awake(m) {
-        if m.command_waits {
-            model::done(wide(m.command), take_command(m), NextState::Same)
+    if awake(x.state) {
+        if x.command_waits {
+            model::done(wide(x.command), take_command(s, x), NextState::Same)
         } else {
-            model::unmoved(m, Answer::NoCommand)
+            model::unmoved(x, Answer::NoCommand)
         }
     } else {
-        model::unmoved(m, Answer::Asleep)
+        model::unmoved(x, Answer::Asleep)
     }
 }
 
-fn drop_flag(m: Machine) -> Scalars
-    ensures { λ r. ⌜ r ≡ scalarsOf (dropOf m) ⌝ }
+fn drop_flag(x: Scalars) -> Scalars
+    ensures { λ r. ⌜ r ≡ scalarsOf (dropOf (bare noSettings x)) ⌝ }
 {
-    let mut x = m.scalars();
-    x.gbl_rls = false;
-    x
+    let mut next = x.copied();
+    next.gbl_rls = false;
+    next
 }
 
 // The firmware drops the release flag: 20, else 0.
-pub fn drop(m: Machine) -> Effect
-    ensures { λ r. ⌜ r ≡ effectOf m step.Drop ⌝ }
+pub fn drop(x: Scalars) -> Effect
+    ensures { λ r. ⌜ r ≡ effectOf (bare noSettings x) step.Drop ⌝ }
 {
-    if awake(m) {
-        model::done(0, drop_flag(m), NextState::Same)
+    if awake(x.state) {
+        model::done(0, drop_flag(x), NextState::Same)
     } else {
-        model::unmoved(m, Answer::Asleep)
+        model::unmoved(x, Answer::Asleep)
     }
 }

@@ -13,9 +13,11 @@ use platform::is_present;
 use registers::has_pm1b_cnt;
 ghost use mathlib.Core.Bool.{false, true, not, cond, _&&_, _||_};
 ghost use mathlib.Core.Path.{_≡_};
+ghost use Prim.Native.Nat.{_^_};
 ghost use lib.Dec.{eqb, ltb};
 ghost use lib.ListN.{getD, drop};
 ghost use Rattle.lists.specs.Any.{any};
+ghost use Rattle.clock.specs.Clock.{counterBits};
 ghost use Rattle.sleep.specs.Pairs.{absent};
 ghost use Rattle.platform.specs.Legal.{strayLength};
 ghost use Rattle.model.specs.Legal.{onlyIf, absentPair, statusLegal, enablesLegal, bytesLegal, gpeLegal, arbDisLegal, stateLegal, counterLegal, holdLegal, buttonLegal, commandLegal, armedLegal, slpTypBLegal, slpTypsLegal, gpePendingLegal};
@@ -116,19 +118,27 @@ fn state_legal(m: Machine) -> bool
 }
 
 // A counter of 32 bits has no size to pass.
+// A counter of 32 bits, wide, or of 24 is below its size.
+fn counter_fits(wide: bool, counter: u32) -> bool
+    ensures { λ r. ⌜ r ≡ ltb counter (2 ^ counterBits wide) ⌝ }
+{
+    wide | (counter < 16777216)
+}
+
 fn counter_legal(m: Machine) -> bool
     ensures { λ r. ⌜ r ≡ counterLegal m ⌝ }
 {
     let s = m.settings;
-    platform::wide_timer(s) | (m.counter < 16777216)
+    counter_fits(platform::wide_timer(s), m.counter)
 }
+
+const HOLD: u32 = HOLD_LIMIT as u32;
 
 fn hold_legal(m: Machine) -> bool
     ensures { λ r. ⌜ r ≡ holdLegal m ⌝ }
 {
     let s = m.settings;
-    let hold = m.hold as u64;
-    (hold <= HOLD_LIMIT) & (!(s.power_override & (m.state != 5)) | (hold < HOLD_LIMIT))
+    (m.hold <= HOLD) & (!(s.power_override & (m.state != 5)) | (m.hold < HOLD))
 }
 
 fn button_legal(m: Machine) -> bool
@@ -149,7 +159,7 @@ fn armed_legal(m: Machine) -> bool
     ensures { λ r. ⌜ r ≡ armedLegal m ⌝ }
 {
     let s = m.settings;
-    let up = awake(m);
+    let up = awake(m.state);
     let b = has_pm1b_cnt(s);
     !m.armed | (up & b)
 }

@@ -1,7 +1,7 @@
--- The laws of `anyEnabled`: one turn of a loop over the rest of both lists, and its end, of one block and of both; and what one more status bit does.
+-- The laws of `anyEnabled`: one turn of a loop over the rest of both lists, and its end, and what one more status bit does.
 -- Assumes nothing.
 use mathlib.Core.Path.{_≡_, refl, sym, _∙_, ap}
-use mathlib.Core.Bool.{Bool, true, false, not, _||_, or-assoc, or-false}
+use mathlib.Core.Bool.{Bool, true, false, not, _||_, or-assoc}
 use mathlib.Core.List.{List, [], _∷_}
 use Prim.Native.Nat.{ℕ, zero, suc, _+_, _≤_, _<_}
 use native.Mathlib.Nat.{le-of-suc-le-suc, not-suc-le-zero}
@@ -15,26 +15,18 @@ use Rattle.bits.proofs.Algebra.{masked-or, and-absorbs-or}
 use Rattle.machine.specs.Status.{hasBit}
 use Rattle.machine.specs.Lines.{anyEnabled}
 
--- a bit is set
-abbrev pub some : ℕ → Bool
-some x = not (eqb x 0)
-
--- an or has a bit exactly if one of the two has
-some-or : (a b : ℕ) → some (bitOr a b) ≡ (some a || some b)
-some-or a b = go (eqb a 0) refl
-  where
-    go : (t : Bool) → eqb a 0 ≡ t → some (bitOr a b) ≡ (some a || some b)
-    go true e = rw (eqb-true a 0 e, or-zero-l b) refl
-    go false e =
-        let lost : bitOr a b ≡ 0 → a ≡ 0 = λ z. sym (and-absorbs-or a b) ∙ ap (bitAnd a) z ∙ and-zero-r a in
-        rw (e, ne-eqb (bitOr a b) 0 (λ z. eqb-false a 0 e (lost z))) refl
-
 module _ (ss es : List ℕ) (i : ℕ) where
   -- one turn: the bytes at i, then the rest
   pub any-enabled-turn : i < length ss → i < length es
       → anyEnabled (drop i ss) (drop i es) ≡ (hasBit (getD ss i 0) (getD es i 0) || anyEnabled (drop (i + 1) ss) (drop (i + 1) es))
   unfolding anyEnabled
   any-enabled-turn h k = rw (drop-cons ss i 0 h, drop-cons es i 0 k, add-one) refl
+
+  -- with what was found before
+  pub any-found-turn : (found : Bool) → i < length ss → i < length es
+      → (found || anyEnabled (drop i ss) (drop i es)) ≡ ((found || hasBit (getD ss i 0) (getD es i 0)) || anyEnabled (drop (i + 1) ss) (drop (i + 1) es))
+  any-found-turn true h k = refl
+  any-found-turn false h k = any-enabled-turn h k
 
   -- the end: nothing is left
   pub any-enabled-end : length ss ≤ i → anyEnabled (drop i ss) (drop i es) ≡ false
@@ -47,29 +39,21 @@ or-swapped true true c = refl
 or-swapped true false c = refl
 or-swapped false b c = refl
 
--- ---- both blocks at once
-
--- what was found, or a byte's bits, or the rest, of either block
-regrouped : (a x y b c : Bool) → (a || ((x || b) || (y || c))) ≡ (((a || x) || y) || (b || c))
-regrouped true x y b c = refl
-regrouped false true y b c = refl
-regrouped false false y b c = or-swapped b y c
-
-module _ (ss es ts fs : List ℕ) (i found : ℕ) where
-  -- one turn: the bits found, the bytes at i, then the rest
-  pub any-pending-turn : i < length ss → i < length es → i < length ts → i < length fs
-      → (some found || (anyEnabled (drop i ss) (drop i es) || anyEnabled (drop i ts) (drop i fs)))
-      ≡ (some (bitOr (bitOr found (bitAnd (getD ss i 0) (getD es i 0))) (bitAnd (getD ts i 0) (getD fs i 0))) || (anyEnabled (drop (i + 1) ss) (drop (i + 1) es) || anyEnabled (drop (i + 1) ts) (drop (i + 1) fs)))
-  unfolding hasBit
-  any-pending-turn h k l n =
-      rw (any-enabled-turn ss es i h k, any-enabled-turn ts fs i l n, some-or (bitOr found (bitAnd (getD ss i 0) (getD es i 0))) (bitAnd (getD ts i 0) (getD fs i 0)), some-or found (bitAnd (getD ss i 0) (getD es i 0)))
-      (regrouped (some found) _ _ _ _)
-
-  -- the end: what was found
-  pub any-pending-end : length ss ≤ i → length ts ≤ i → (some found || (anyEnabled (drop i ss) (drop i es) || anyEnabled (drop i ts) (drop i fs))) ≡ some found
-  any-pending-end h k = rw (any-enabled-end ss es i h, any-enabled-end ts fs i k, or-false)
-
 -- ---- one more status bit
+
+-- a bit is set
+abbrev some : ℕ → Bool
+some x = not (eqb x 0)
+
+-- an or has a bit exactly if one of the two has
+some-or : (a b : ℕ) → some (bitOr a b) ≡ (some a || some b)
+some-or a b = go (eqb a 0) refl
+  where
+    go : (t : Bool) → eqb a 0 ≡ t → some (bitOr a b) ≡ (some a || some b)
+    go true e = rw (eqb-true a 0 e, or-zero-l b) refl
+    go false e =
+        let lost : bitOr a b ≡ 0 → a ≡ 0 = λ z. sym (and-absorbs-or a b) ∙ ap (bitAnd a) z ∙ and-zero-r a in
+        rw (e, ne-eqb (bitOr a b) 0 (λ z. eqb-false a 0 e (lost z))) refl
 
 -- one more bit is among those of a mask, or those before were
 has-bit-or : (x bit mask : ℕ) → hasBit (bitOr x bit) mask ≡ (hasBit mask bit || hasBit x mask)

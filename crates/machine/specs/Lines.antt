@@ -9,8 +9,11 @@ use Rattle.machine.specs.Fields.{withGpePending}
 use Rattle.machine.specs.Status.{hasBit}
 
 -- "Awake is S0": document 01's word for the working state
+abbrev pub isAwake : ℕ → Bool
+isAwake state = eqb state 0
+
 unfoldable pub awake : Machine → Bool
-awake m = eqb (m .state) 0
+awake m = isAwake (m .state)
 
 -- some general status bit is set together with its enable, byte by byte
 unfoldable pub anyEnabled : List ℕ → List ℕ → Bool

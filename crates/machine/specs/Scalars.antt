@@ -1,7 +1,10 @@
 -- The machine's numbers and flags, apart from its settings and the general event bytes.
+use mathlib.Core.Bool.{false}
+use Rattle.platform.specs.declared.settings.Settings.{Settings}
 use Rattle.machine.specs.declared.Machine.{Machine}
 use Rattle.machine.specs.declared.scalars.Scalars.{Scalars}
 use Rattle.machine.specs.Fields.{made}
+use Rattle.machine.specs.PowerOn.{zeroed}
 
 abbrev pub scalarsOf : Machine → Scalars
 scalarsOf m =
@@ -30,3 +33,7 @@ withScalars m x =
     made (m .settings) (x .«pm1_sts», x .«pm1_en») (m .«gpe0_sts», m .«gpe0_en», m .«gpe1_sts», m .«gpe1_en», x .«gpe_pending»)
     (x .counter, x .hold, x .button) (x .«command_waits», x .command)
     (x .«sci_en», x .«bm_rld», x .«gbl_rls», x .«slp_typ_a», x .«slp_typ_b», x .«arb_dis») (x .armed, x .state)
+
+-- a machine of these settings and scalars, its general event bytes zero: what looks at no such byte is said of it
+abbrev pub bare : Settings → Scalars → Machine
+bare s x = withScalars (zeroed s false) x

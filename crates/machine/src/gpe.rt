@@ -1,8 +1,7 @@
 // The general event bytes: storing one, and looking for an enabled status bit.
 use crate::Machine;
+use crate::status::has_bit8;
 ghost use mathlib.Core.Path.{_≡_};
-ghost use mathlib.Core.Bool.{_||_};
-ghost use lib.Bits.{bitAnd, bitOr};
 ghost use lib.ListN.{set};
 ghost use Rattle.machine.specs.Lines.{anyEnabled, walked};
 ghost use Rattle.machine.specs.Gpe.{noStore, stores, bytePut, byteStored, stored};
@@ -54,29 +53,17 @@ fn with_byte(mut bytes: [u8; GPE_BYTES], place: u64, byte: u8) -> [u8; GPE_BYTES
     }
 }
 
-// Whether some general status bit, of GPE0 or of GPE1, is set together with its enable. It looks at every byte, with no way out before the last.
-fn any_pending(
-    sts0: [u8; GPE_BYTES],
-    en0: [u8; GPE_BYTES],
-    sts1: [u8; GPE_BYTES],
-    en1: [u8; GPE_BYTES],
-) -> bool
-    ensures { λ r. ⌜ r ≡ (anyEnabled sts0 en0 || anyEnabled sts1 en1) ⌝ }
+// Whether some status bit of a block is set together with its enable. It looks at every byte, with no way out before the last.
+fn any_enabled(sts: [u8; GPE_BYTES], en: [u8; GPE_BYTES]) -> bool
+    ensures { λ r. ⌜ r ≡ anyEnabled sts en ⌝ }
 {
-    let mut found: u8 = 0;
+    let mut found = false;
     let mut i = 0;
     while i < GPE_BYTES {
-        found = both(found, sts0[i], en0[i], sts1[i], en1[i]);
+        found = found | has_bit8(sts[i], en[i]);
         i += 1;
     }
-    found != 0
-}
-
-// A turn of the walk: the bits found so far, with those of one byte of each block.
-fn both(found: u8, sts0: u8, en0: u8, sts1: u8, en1: u8) -> u8
-    ensures { λ r. ⌜ r ≡ bitOr (bitOr found (bitAnd sts0 en0)) (bitAnd sts1 en1) ⌝ }
-{
-    found | (sts0 & en0) | (sts1 & en1)
+    found
 }
 
 fn stores(array: GpeArray) -> bool
@@ -100,7 +87,7 @@ impl Machine {
         let en0 = self.gpe0_en;
         let sts1 = self.gpe1_sts;
         let en1 = self.gpe1_en;
-        let pending = any_pending(sts0, en0, sts1, en1);
+        let pending = any_enabled(sts0, en0) | any_enabled(sts1, en1);
         self.gpe_pending = pending;
         self
     }

@@ -41,35 +41,35 @@ ghost use Rattle.machine.specs.SetUp.{machineFor, setUpOf};
 // No padding stands between the fields: with it the compiler would copy them as bytes.
 pub struct Machine {
     pub settings: Settings,
-    // TMR_VAL, and with TMR_VAL_EXT E_TMR_VAL above it
-    pub counter: u32,
+    // SCI_EN, BM_RLD, and SLP_TYPx of PM1a_CNT
+    pub sci_en: bool,
+    pub bm_rld: bool,
+    pub slp_typ_a: u8,
+    // ARB_DIS of PM2_CNT
+    pub arb_dis: bool,
+    // SLP_TYPx of PM1b_CNT
+    pub slp_typ_b: u8,
     // SLP_EN was written at A, and B is awaited
     pub armed: bool,
     // 0 to 5 for S0 to S5
     pub state: u8,
-    // PM1a_STS with PM1b_STS; a bit's home says in which block it is read and written, here and in pm1_en
-    pub pm1_sts: u16,
-    // hold, document 01's word: ticks in S0 with the power button down since the last press, at most 14,318,180
-    pub hold: u32,
-    // whether a command waits for the firmware
-    pub command_waits: bool,
     // whether a GPE status bit is set together with its enable; SCI, SMI and completing take it from here and look at no byte
     pub gpe_pending: bool,
-    // PM1a_EN with PM1b_EN
-    pub pm1_en: u16,
-    // the power button is down
-    pub button: bool,
-    // SLP_TYPx of PM1a_CNT and of PM1b_CNT
-    pub slp_typ_a: u8,
-    pub slp_typ_b: u8,
-    // BM_RLD, SCI_EN, and ARB_DIS of PM2_CNT
-    pub bm_rld: bool,
-    pub sci_en: bool,
-    pub arb_dis: bool,
-    // the command's byte; zero where none waits
+    // the command's byte, zero where none waits; and whether one waits for the firmware
     pub command: u8,
+    pub command_waits: bool,
+    // PM1a_STS with PM1b_STS; a bit's home says in which block it is read and written, here and in pm1_en
+    pub pm1_sts: u16,
+    // TMR_VAL, and with TMR_VAL_EXT E_TMR_VAL above it
+    pub counter: u32,
     // the release flag: GBL_RLS was written, and the firmware has not dropped it
     pub gbl_rls: bool,
+    // the power button is down
+    pub button: bool,
+    // PM1a_EN with PM1b_EN
+    pub pm1_en: u16,
+    // hold, document 01's word: ticks in S0 with the power button down since the last press, at most 14,318,180
+    pub hold: u32,
     // GPE0_STS, GPE0_EN, GPE1_STS and GPE1_EN; bytes past a block's own are zero
     pub gpe0_sts: [u8; GPE_BYTES],
     pub gpe0_en: [u8; GPE_BYTES],

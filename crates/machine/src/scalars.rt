@@ -8,22 +8,48 @@ ghost use Rattle.machine.specs.Scalars.{scalarsOf, withScalars};
 
 // A step is worked out on these and stored once, so that no way through it copies settings or bytes. The fields are those of Machine.
 pub struct Scalars {
-    pub counter: u32,
+    pub sci_en: bool,
+    pub bm_rld: bool,
+    pub slp_typ_a: u8,
+    pub arb_dis: bool,
+    pub slp_typ_b: u8,
     pub armed: bool,
     pub state: u8,
-    pub pm1_sts: u16,
-    pub hold: u32,
-    pub command_waits: bool,
     pub gpe_pending: bool,
-    pub pm1_en: u16,
-    pub button: bool,
-    pub slp_typ_a: u8,
-    pub slp_typ_b: u8,
-    pub bm_rld: bool,
-    pub sci_en: bool,
-    pub arb_dis: bool,
     pub command: u8,
+    pub command_waits: bool,
+    pub pm1_sts: u16,
+    pub counter: u32,
     pub gbl_rls: bool,
+    pub button: bool,
+    pub pm1_en: u16,
+    pub hold: u32,
+}
+
+impl Scalars {
+    // The same, field by field: copied whole, the compiler moves neighbouring fields as one number, and takes that apart again in every step.
+    pub fn copied(self) -> Scalars
+        ensures { λ r. ⌜ r ≡ self ⌝ }
+    {
+        Scalars {
+            sci_en: self.sci_en,
+            bm_rld: self.bm_rld,
+            slp_typ_a: self.slp_typ_a,
+            arb_dis: self.arb_dis,
+            slp_typ_b: self.slp_typ_b,
+            armed: self.armed,
+            state: self.state,
+            gpe_pending: self.gpe_pending,
+            command: self.command,
+            command_waits: self.command_waits,
+            pm1_sts: self.pm1_sts,
+            counter: self.counter,
+            gbl_rls: self.gbl_rls,
+            button: self.button,
+            pm1_en: self.pm1_en,
+            hold: self.hold,
+        }
+    }
 }
 
 impl Machine {
@@ -31,44 +57,44 @@ impl Machine {
         ensures { λ r. ⌜ r ≡ scalarsOf self ⌝ }
     {
         Scalars {
-            counter: self.counter,
+            sci_en: self.sci_en,
+            bm_rld: self.bm_rld,
+            slp_typ_a: self.slp_typ_a,
+            arb_dis: self.arb_dis,
+            slp_typ_b: self.slp_typ_b,
             armed: self.armed,
             state: self.state,
-            pm1_sts: self.pm1_sts,
-            hold: self.hold,
-            command_waits: self.command_waits,
             gpe_pending: self.gpe_pending,
-            pm1_en: self.pm1_en,
-            button: self.button,
-            slp_typ_a: self.slp_typ_a,
-            slp_typ_b: self.slp_typ_b,
-            bm_rld: self.bm_rld,
-            sci_en: self.sci_en,
-            arb_dis: self.arb_dis,
             command: self.command,
+            command_waits: self.command_waits,
+            pm1_sts: self.pm1_sts,
+            counter: self.counter,
             gbl_rls: self.gbl_rls,
+            button: self.button,
+            pm1_en: self.pm1_en,
+            hold: self.hold,
         }
     }
 
     pub(crate) fn with_scalars(mut self, x: Scalars) -> Machine
         ensures { λ r. ⌜ r ≡ withScalars self x ⌝ }
     {
-        self.counter = x.counter;
+        self.sci_en = x.sci_en;
+        self.bm_rld = x.bm_rld;
+        self.slp_typ_a = x.slp_typ_a;
+        self.arb_dis = x.arb_dis;
+        self.slp_typ_b = x.slp_typ_b;
         self.armed = x.armed;
         self.state = x.state;
-        self.pm1_sts = x.pm1_sts;
-        self.hold = x.hold;
-        self.command_waits = x.command_waits;
         self.gpe_pending = x.gpe_pending;
-        self.pm1_en = x.pm1_en;
-        self.button = x.button;
-        self.slp_typ_a = x.slp_typ_a;
-        self.slp_typ_b = x.slp_typ_b;
-        self.bm_rld = x.bm_rld;
-        self.sci_en = x.sci_en;
-        self.arb_dis = x.arb_dis;
         self.command = x.command;
+        self.command_waits = x.command_waits;
+        self.pm1_sts = x.pm1_sts;
+        self.counter = x.counter;
         self.gbl_rls = x.gbl_rls;
+        self.button = x.button;
+        self.pm1_en = x.pm1_en;
+        self.hold = x.hold;
         self
     }
 

@@ -1,6 +1,7 @@
 // Sleep and wake.
 use crate::Machine;
 use crate::gpe::GPE_BYTES;
+use crate::scalars::Scalars;
 use crate::status::PWRBTN;
 use crate::status::RTC;
 use crate::status::SLPBTN;
@@ -12,6 +13,7 @@ use bits::pick16;
 use platform::Settings;
 ghost use mathlib.Core.Path.{_≡_};
 ghost use Rattle.machine.specs.Fields.{withEvent, enter};
+ghost use Rattle.machine.specs.Scalars.{bare};
 ghost use Rattle.machine.specs.Sleep.{isSleeping, wakeBits, woken, pending, completed, restarted, overridden, restartPressed, stateChanged, inNextState};
 
 // What wakes a machine: a PM1 status bit by its number, a general event by its own, or not known which of several.
@@ -37,11 +39,10 @@ pub fn wake_bits(settings: Settings, state: u8) -> u16
 }
 
 // Whether an enabled bit that wakes the state, or an enabled GPE, is already set.
-fn pending(machine: Machine, state: u8) -> bool
-    ensures { λ r. ⌜ r ≡ pending machine state ⌝ }
+fn pending(settings: Settings, x: Scalars, state: u8) -> bool
+    ensures { λ r. ⌜ r ≡ pending (bare settings x) state ⌝ }
 {
-    let settings = machine.settings;
-    has_bit(machine.pm1_sts & machine.pm1_en, wake_bits(settings, state)) | machine.gpe_pending
+    has_bit(x.pm1_sts & x.pm1_en, wake_bits(settings, state)) | x.gpe_pending
 }
 
 // What becomes of the sleep state in a step.
@@ -83,7 +84,8 @@ impl Machine {
     pub fn complete(self, state: u8) -> Machine
         ensures { λ r. ⌜ r ≡ completed self state ⌝ }
     {
-        let wakes = is_sleeping(state) & pending(self, state);
+        let settings = self.settings;
+        let wakes = is_sleeping(state) & pending(settings, self.scalars(), state);
         let sts = pick16(wakes, self.pm1_sts | WAK, self.pm1_sts);
         self.enter(sts, pick8(wakes, 0, state))
     }

@@ -1,7 +1,7 @@
 -- A step is its effect, done to the machine: an effect that changes no scalar, stores nothing and stays in the state leaves the machine, and each
 -- rule's effect is the rule. Assumes nothing.
 use mathlib.Core.Path.{_≡_, refl, sym, _∙_, ap, ap₂}
-use mathlib.Core.Bool.{Bool, true, false, cond, _&&_}
+use mathlib.Core.Bool.{Bool, true, false, cond, _&&_, false≢true}
 use Prim.Native.Nat.{ℕ}
 use Rattle.lists.proofs.Tests.{and-left}
 use Rattle.bits.proofs.Algebra.{or-swap}
@@ -11,18 +11,20 @@ use Rattle.machine.specs.declared.sleeping.NextState.the-variants as next
 use Rattle.machine.specs.Fields.{withEvent, withButton, enter}
 use Rattle.machine.specs.Gpe.{bytePut, byteStored, stores, stored}
 use Rattle.machine.specs.Lines.{awake}
-use Rattle.machine.specs.Scalars.{scalarsOf}
+use Rattle.machine.specs.PowerOn.{noSettings}
+use Rattle.machine.specs.Scalars.{bare, scalarsOf}
 use Rattle.machine.specs.Status.{pwrbtnBit, wakBit}
 use Rattle.machine.specs.Sleep.{isSleeping, stateChanged, inNextState}
-use Rattle.registers.specs.Registers.{inGpeStatus, gpeStsAfter, gpeEnAfter}
+use Rattle.registers.specs.Registers.{statusAfter, enableAfter, inGpeStatus, gpeStsByte, gpeStsAfter, gpeEnAfter}
+use Rattle.model.specs.Answer.{firstApplying}
 use Rattle.model.specs.Bus.{writeOf, gpeWritten}
-use Rattle.model.specs.Control.{completes, controlled, controlWritten}
-use Rattle.model.specs.Effect.{steppedBy, unmoved, done, unlessRefused, completing, stsByte, enByte, gpeWrite, writeEffect, wakesIf, pressWakes, pressEffect, releaseEffect, signalEffect, pcieWakeEffect, noticeEffect, generalByte, generalEffect, clockEffect, ticksEffect, effectBy, eventEffect, effectOf}
+use Rattle.model.specs.Control.{typAfter, completes, armedAfter, bmRldAfter, gblRlsAfter, controlled, controlWritten}
+use Rattle.model.specs.Effect.{steppedBy, unmoved, done, unlessRefused, eventWrite, completing, controlWrite, stsByte, enByte, gpeWrite, writeEffect, wakesIf, pressWakes, pressEffect, releaseEffect, signalEffect, pcieWakeEffect, noticeEffect, generalByte, generalEffect, clockEffect, ticksEffect, effectBy, eventEffect, effectOf}
 use Rattle.model.specs.EventKinds.{EventKind, eventKind}
 use Rattle.model.specs.EventKinds as kind
 use Rattle.model.specs.Events.{StatusBit, eventBit, pm1Mask, inS5, pressOf, signalOf, signalWakes, pcieWakes, pcieWakeOf, inGpe0, generalEnabled, generalRaised, generalOf, timed, clockAfter, tickedBy, turnsBy, valueBy, doneBy, eventOf}
-use Rattle.model.specs.Firmware.{takeOf, dropOf}
-use Rattle.model.specs.Step.{registerOf, offsetOf, doneValue, doneOf, answerTo, accepted, after, stepOf}
+use Rattle.model.specs.Firmware.{isAcpiEnable, isAcpiDisable, sciEnAfter, enablesAfter, takeOf, dropOf}
+use Rattle.model.specs.Step.{registerOf, offsetOf, refusalsBy, doneValue, doneOf, answerTo, accepted, after, stepOf}
 use Rattle.model.specs.declared.Answer.{Answer}
 use Rattle.model.specs.declared.Answer.the-variants as answer
 use Rattle.model.specs.declared.Effect.{Effect}
@@ -39,14 +41,14 @@ use Rattle.model.proofs.Turns.{turns-awake, turns-asleep}
 abbrev given : ℕ → Machine → Stepped
 given value m = record { answer = answer.Done value; machine = m }
 
-pub unmoved-stays : (m : Machine) (a : Answer) → steppedBy m (unmoved m a) ≡ record { answer = a; machine = m }
+pub unmoved-stays : (m : Machine) (a : Answer) → steppedBy m (unmoved (scalarsOf m) a) ≡ record { answer = a; machine = m }
 unfolding stored stores inNextState
 unmoved-stays m a = refl
 
 -- ---- writes
 
 gpe-written : (m : Machine) (b : Bool) (offset written : ℕ) (t : Bool) → inGpeStatus (m .settings) b offset ≡ t
-    → steppedBy m (cond t (gpeWrite m (stsByte m b offset written)) (gpeWrite m (enByte (m .settings) b offset written))) ≡ given 0 (gpeWritten m b offset written)
+    → steppedBy m (cond t (gpeWrite (scalarsOf m) (stsByte (gpeStsByte m b offset) b offset written)) (gpeWrite (scalarsOf m) (enByte (m .settings) b offset written))) ≡ given 0 (gpeWritten m b offset written)
 unfolding stored stores byteStored bytePut inNextState gpeStsAfter gpeEnAfter
 gpe-written m false offset written true e = rw e refl
 gpe-written m true offset written true e = rw e refl
@@ -72,7 +74,7 @@ write-does m register.Nowhere width offset written = refl
 -- ---- events
 
 press-does : (m : Machine) (t u : Bool) → inS5 m ≡ t → (isSleeping (m .state) && true) ≡ u → steppedBy m (pressEffect m) ≡ given 0 (pressOf m)
-unfolding stored stores inNextState stateChanged pressEffect pressWakes wakesIf pressOf
+unfolding stored stores inNextState stateChanged pressEffect pressWakes wakesIf inS5 pressOf
 press-does m true u e f = rw e refl
 press-does m false true e f = rw (e, f) (ap (λ sts. given 0 (withButton (enter (withEvent m sts (m .«pm1_en»)) 0) true 0)) (or-swap (m .«pm1_sts») pwrbtnBit wakBit))
 press-does m false false e f = rw (e, f) refl
@@ -138,3 +140,60 @@ effect-law m (step.Event e) =
     ∙ sym (stepped-unless-refused m (step.Event e))
 effect-law m step.Take = unless-refused m step.Take (done (m .command) (scalarsOf (takeOf m)) next.Same) _ refl refl
 effect-law m step.Drop = unless-refused m step.Drop (done 0 (scalarsOf (dropOf m)) next.Same) _ refl refl
+
+-- ---- refusals, for the functions that give them
+
+pub take-refused : (m : Machine) (a : Answer) → answerTo m step.Take ≡ a → accepted a ≡ false → effectOf m step.Take ≡ unmoved (scalarsOf m) a
+unfolding effectOf
+take-refused m a p q = rw (p, q) refl
+
+pub event-refused : (m : Machine) (bit : StatusBit) (k : EventKind) (a : Answer) → firstApplying (refusalsBy m bit k) (answer.Done 0) ≡ a → accepted a ≡ false
+    → eventEffect m bit k ≡ unmoved (scalarsOf m) a
+unfolding eventEffect
+event-refused m bit k a p q = rw (p, q) refl
+
+-- ---- what reads no general event byte: the same of the machine without them
+
+-- the machine, its general event bytes zero
+abbrev pub bareOf : Machine → Machine
+bareOf m = bare (m .settings) (scalarsOf m)
+
+pub control-bare : (m : Machine) (b : Bool) (width offset written : ℕ) → controlWrite (bareOf m) b width offset written ≡ controlWrite m b width offset written
+unfolding controlWrite completing completes typAfter armedAfter bmRldAfter gblRlsAfter
+control-bare m b width offset written = refl
+
+pub event-write-bare : (m : Machine) (b : Bool) (width offset written : ℕ) → eventWrite (bareOf m) b width offset written ≡ eventWrite m b width offset written
+unfolding statusAfter enableAfter
+event-write-bare m b width offset written = refl
+
+-- an event that is no general one
+abbrev pub readsNoByte : EventKind → Bool
+readsNoByte kind.press = true
+readsNoByte kind.release = true
+readsNoByte kind.signal = true
+readsNoByte kind.pcieWake = true
+readsNoByte kind.notice = true
+readsNoByte (kind.general k) = false
+readsNoByte (kind.ticks n) = true
+
+pub event-bare : (m : Machine) (bit : StatusBit) (k : EventKind) → readsNoByte k ≡ true → eventEffect (bareOf m) bit k ≡ eventEffect m bit k
+unfolding eventEffect firstApplying awake inS5 pressEffect pressWakes wakesIf releaseEffect signalEffect pcieWakeEffect noticeEffect ticksEffect
+event-bare m bit kind.press p = refl
+event-bare m bit kind.release p = refl
+event-bare m bit kind.signal p = refl
+event-bare m bit kind.pcieWake p = refl
+event-bare m bit kind.notice p = refl
+event-bare m bit (kind.general k) p = absurd (false≢true p)
+event-bare m bit (kind.ticks n) p = refl
+
+pub notice-bare : (m : Machine) (bit : StatusBit) → eventEffect (bare noSettings (scalarsOf m)) bit kind.notice ≡ eventEffect m bit kind.notice
+unfolding eventEffect firstApplying awake noticeEffect
+notice-bare m bit = refl
+
+pub take-bare : (m : Machine) → effectOf (bareOf m) step.Take ≡ effectOf m step.Take
+unfolding effectOf answerTo firstApplying awake isAcpiEnable isAcpiDisable sciEnAfter enablesAfter
+take-bare m = refl
+
+pub drop-bare : (m : Machine) → effectOf (bare noSettings (scalarsOf m)) step.Drop ≡ effectOf m step.Drop
+unfolding effectOf answerTo firstApplying awake
+drop-bare m = refl

@@ -30,7 +30,7 @@ use Rattle.model.specs.Answer.{firstApplying}
 use Rattle.model.specs.Control.{completes, namedState, controlled}
 use Rattle.model.specs.EventKinds.{EventKind, eventKind}
 use Rattle.model.specs.EventKinds as kind
-use Rattle.model.specs.Events.{StatusBit, gpe, eventBit, pm1Mask, eventMask, eventSource, sourceOf, raised, inS5, releaseOf, signalWakes, pcieWakes, inGpe0, numberIn, generalEnabled, clockAfter, tmrRaised}
+use Rattle.model.specs.Events.{StatusBit, gpe, eventBit, pm1Mask, eventMask, eventSource, sourceOf, raised, isS5, inS5, releaseOf, signalWakes, pcieWakes, inGpe0, numberIn, generalEnabled, clockAfter, tmrRaised}
 use Rattle.model.specs.Firmware.{takeOf, dropOf}
 use Rattle.model.specs.Step.{registerOf, offsetOf, registerRefusals, refusalsBy, answerTo, accepted}
 use Rattle.model.specs.declared.Answer.{Answer}
@@ -48,8 +48,8 @@ abbrev pub steppedBy : Machine → Effect → Stepped
 steppedBy m e = record { answer = e .answer; machine = applied m (e .scalars) (e .store) (e .next) }
 
 -- the machine stays as it is
-abbrev pub unmoved : Machine → Answer → Effect
-unmoved m a = record { answer = a; scalars = scalarsOf m; store = noStore; next = next.Same }
+abbrev pub unmoved : Scalars → Answer → Effect
+unmoved x a = record { answer = a; scalars = x; store = noStore; next = next.Same }
 
 -- accepted, with the value
 abbrev pub done : ℕ → Scalars → NextState → Effect
@@ -57,7 +57,7 @@ done value x next = record { answer = answer.Done value; scalars = x; store = no
 
 -- a refusal leaves the machine as it was
 abbrev pub unlessRefused : Machine → Answer → Effect → Effect
-unlessRefused m a e = cond (accepted a) e (unmoved m a)
+unlessRefused m a e = cond (accepted a) e (unmoved (scalarsOf m) a)
 
 -- ---- writes
 
@@ -72,7 +72,7 @@ completing m b width offset written =
 -- a write to a control register: 27, or what it does
 unfoldable pub controlWrite : Machine → Bool → ℕ → ℕ → ℕ → Effect
 controlWrite m b width offset written =
-    cond (completes m b width offset written && eqb (namedState m b width offset written) 0) (unmoved m answer.NoSleepState)
+    cond (completes m b width offset written && eqb (namedState m b width offset written) 0) (unmoved (scalarsOf m) answer.NoSleepState)
     (done 0 (scalarsOf (controlled m b width offset written)) (completing m b width offset written))
 
 -- the block's status array, and its enable array
@@ -83,14 +83,14 @@ abbrev pub enArray : Bool → GpeArray
 enArray b = cond b array.Gpe1En array.Gpe0En
 
 -- "GPE: status bytes, then as many enable bytes, the same rules": the byte that a write leaves, in the status half and in the enable half
-abbrev pub stsByte : Machine → Bool → ℕ → ℕ → GpeStore
-stsByte m b offset written = record { place = offset; byte = clearedBy 8 (gpeStsByte m b offset) written 255; walks = true; array = stsArray b }
+abbrev pub stsByte : ℕ → Bool → ℕ → ℕ → GpeStore
+stsByte sts b offset written = record { place = offset; byte = clearedBy 8 sts written 255; walks = true; array = stsArray b }
 
 abbrev pub enByte : Settings → Bool → ℕ → ℕ → GpeStore
 enByte s b offset written = record { place = offset - gpeHalf s b; byte = written % 2 ^ 8; walks = true; array = enArray b }
 
-abbrev pub gpeWrite : Machine → GpeStore → Effect
-gpeWrite m store = record { answer = answer.Done 0; scalars = scalarsOf m; store = store; next = next.Same }
+abbrev pub gpeWrite : Scalars → GpeStore → Effect
+gpeWrite x store = record { answer = answer.Done 0; scalars = x; store = store; next = next.Same }
 
 -- an accepted write, by its register
 unfoldable pub writeEffect : Machine → Register → ℕ → ℕ → ℕ → Effect
@@ -99,10 +99,10 @@ writeEffect m (register.Pm1Evt b) width offset written = done 0 (eventWrite m b 
 writeEffect m (register.Pm1Cnt b) width offset written =
     done 0 (scalarsOf (controlled m b width offset written)) (completing m b width offset written)
 writeEffect m register.Pm2Cnt width offset written = done 0 (scalarsOf (withArbDis m (eqb (written / 2 ^ «ARB_DIS» % 2) 1))) next.Same
-writeEffect m register.PmTmr width offset written = unmoved m (answer.Done 0)
+writeEffect m register.PmTmr width offset written = unmoved (scalarsOf m) (answer.Done 0)
 writeEffect m (register.Gpe b) width offset written =
-    cond (inGpeStatus (m .settings) b offset) (gpeWrite m (stsByte m b offset written)) (gpeWrite m (enByte (m .settings) b offset written))
-writeEffect m register.Nowhere width offset written = unmoved m (answer.Done 0)
+    cond (inGpeStatus (m .settings) b offset) (gpeWrite (scalarsOf m) (stsByte (gpeStsByte m b offset) b offset written)) (gpeWrite (scalarsOf m) (enByte (m .settings) b offset written))
+writeEffect m register.Nowhere width offset written = unmoved (scalarsOf m) (answer.Done 0)
 
 -- a write in S0 of a right width: 23 to 27, or what the register's rule says
 unfoldable pub registerWrite : Machine → Register → ℕ → ℕ → ℕ → Effect
@@ -112,30 +112,30 @@ registerWrite m r width offset written =
 -- ---- events
 
 -- an event in S1 to S4 that wakes, or does not
-unfoldable pub wakesIf : Machine → WakeSource → Bool → NextState
-wakesIf m source test = cond (isSleeping (m .state) && test) (next.Changed (change.Wake source)) next.Same
+unfoldable pub wakesIf : ℕ → WakeSource → Bool → NextState
+wakesIf state source test = cond (isSleeping state && test) (next.Changed (change.Wake source)) next.Same
 
 -- "a press always" wakes; "From S5 only a press wakes"
-unfoldable pub pressWakes : Machine → NextState
-pressWakes m = cond (inS5 m) (next.Changed change.Restart) (wakesIf m (eventSource event.Press) true)
+unfoldable pub pressWakes : ℕ → NextState
+pressWakes state = cond (isS5 state) (next.Changed change.Restart) (wakesIf state (eventSource event.Press) true)
 
 -- "Press sets PWRBTN, hold zero."
 unfoldable pub pressEffect : Machine → Effect
-pressEffect m = done 0 (scalarsOf (withButton (raised m (eventMask event.Press)) true 0)) (pressWakes m)
+pressEffect m = done 0 (scalarsOf (withButton (raised m (eventMask event.Press)) true 0)) (pressWakes (m .state))
 
 unfoldable pub releaseEffect : Machine → Effect
 releaseEffect m = done 0 (scalarsOf (releaseOf m)) next.Same
 
 unfoldable pub signalEffect : Machine → StatusBit → Effect
 signalEffect m bit =
-    cond (inS5 m) (unmoved m (answer.Done 0))
-    (done 0 (scalarsOf (raised m (pm1Mask bit))) (wakesIf m (sourceOf bit) (signalWakes m (pm1Mask bit))))
+    cond (inS5 m) (unmoved (scalarsOf m) (answer.Done 0))
+    (done 0 (scalarsOf (raised m (pm1Mask bit))) (wakesIf (m .state) (sourceOf bit) (signalWakes m (pm1Mask bit))))
 
 unfoldable pub pcieWakeEffect : Machine → Effect
 pcieWakeEffect m =
     cond (pcieWakes m)
     (done 0 (scalarsOf (raised m (eventMask event.PcieWake))) (next.Changed (change.Wake (eventSource event.PcieWake))))
-    (unmoved m (answer.Done 0))
+    (unmoved (scalarsOf m) (answer.Done 0))
 
 unfoldable pub noticeEffect : Machine → ℕ → Effect
 noticeEffect m mask = done 0 (scalarsOf (raised m mask)) next.Same
@@ -145,20 +145,17 @@ abbrev pub raisedByte : List ℕ → ℕ → GpeArray → GpeStore
 raisedByte xs k in-array = record { place = k / 8; byte = bitOr (getD xs (k / 8) 0) (2 ^ (k % 8)); walks = false; array = in-array }
 
 -- of GPE0, or else of GPE1
-unfoldable pub generalByte : Machine → ℕ → GpeStore
-generalByte m k =
-    cond (inGpe0 (m .settings) k)
-    (raisedByte (m .«gpe0_sts») k array.Gpe0Sts)
-    (raisedByte (m .«gpe1_sts») (numberIn (m .settings) k) array.Gpe1Sts)
+unfoldable pub generalByte : Settings → List ℕ → List ℕ → ℕ → GpeStore
+generalByte s sts0 sts1 k = cond (inGpe0 s k) (raisedByte sts0 k array.Gpe0Sts) (raisedByte sts1 (numberIn s k) array.Gpe1Sts)
 
 unfoldable pub generalEffect : Machine → ℕ → Effect
 generalEffect m k =
-    cond (inS5 m) (unmoved m (answer.Done 0))
+    cond (inS5 m) (unmoved (scalarsOf m) (answer.Done 0))
     (record {
       answer = answer.Done 0;
       scalars = scalarsOf (withGpePending m (generalEnabled m k || m .«gpe_pending»));
-      store = generalByte m k;
-      next = wakesIf m (sourceOf (gpe k)) (generalEnabled m k);
+      store = generalByte (m .settings) (m .«gpe0_sts») (m .«gpe1_sts») k;
+      next = wakesIf (m .state) (sourceOf (gpe k)) (generalEnabled m k);
     })
 
 abbrev pub overriddenIf : Bool → NextState
@@ -171,7 +168,7 @@ clockEffect m t =
 
 -- n ticks at once, "in S0 only"
 unfoldable pub ticksEffect : Machine → ℕ → Effect
-ticksEffect m n = cond (awake m) (clockEffect m (clockAfter m n)) (unmoved m (answer.Done 0))
+ticksEffect m n = cond (awake m) (clockEffect m (clockAfter m n)) (unmoved (scalarsOf m) (answer.Done 0))
 
 -- an accepted event, by its bit and its kind
 abbrev pub effectBy : Machine → StatusBit → EventKind → Effect
@@ -190,7 +187,7 @@ eventEffect m bit k = unlessRefused m (firstApplying (refusalsBy m bit k) (answe
 -- ---- every step
 
 unfoldable pub effectOf : Machine → Step → Effect
-effectOf m (step.Read a) = unmoved m (answerTo m (step.Read a))
+effectOf m (step.Read a) = unmoved (scalarsOf m) (answerTo m (step.Read a))
 effectOf m (step.Write a written) =
     unlessRefused m (answerTo m (step.Write a written)) (writeEffect m (registerOf m a) (a .width) (offsetOf m a) written)
 effectOf m (step.Event e) = eventEffect m (eventBit e) (eventKind e)

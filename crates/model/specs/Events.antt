@@ -70,8 +70,11 @@ fitted s e = fits s (eventMask e)
 abbrev pub raised : Machine → ℕ → Machine
 raised m bits = withEvent m (bitOr (m .«pm1_sts») bits) (m .«pm1_en»)
 
+abbrev pub isS5 : ℕ → Bool
+isS5 state = eqb state 5
+
 unfoldable pub inS5 : Machine → Bool
-inS5 m = eqb (m .state) 5
+inS5 m = isS5 (m .state)
 
 -- ---- buttons
 
@@ -121,9 +124,13 @@ withBit xs k = set xs (k / 8) (bitOr (getD xs (k / 8) 0) (2 ^ (k % 8)))
 abbrev pub isEnabled : List ℕ → ℕ → Bool
 isEnabled xs k = hasBit (getD xs (k / 8) 0) (2 ^ (k % 8))
 
+-- event k is enabled in GPE0's enable bytes, or else in GPE1's
+abbrev pub enabledIn : Settings → List ℕ → List ℕ → ℕ → Bool
+enabledIn s en0 en1 k = cond (inGpe0 s k) (isEnabled en0 k) (isEnabled en1 (numberIn s k))
+
 -- "general event if enabled"
 unfoldable pub generalEnabled : Machine → ℕ → Bool
-generalEnabled m k = cond (inGpe0 (m .settings) k) (isEnabled (m .«gpe0_en») k) (isEnabled (m .«gpe1_en») (numberIn (m .settings) k))
+generalEnabled m k = enabledIn (m .settings) (m .«gpe0_en») (m .«gpe1_en») k
 
 -- ".. general events set their bits": of GPE0, or else of GPE1. Request W7: an enabled one is pending
 unfoldable pub generalRaised : Machine → ℕ → Machine

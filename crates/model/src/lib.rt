@@ -147,12 +147,12 @@ pub fn accepted(a: Answer) -> bool
 }
 
 // The machine stays as it is.
-pub fn unmoved(m: Machine, answer: Answer) -> Effect
-    ensures { λ r. ⌜ r ≡ unmoved m answer ⌝ }
+pub fn unmoved(scalars: Scalars, answer: Answer) -> Effect
+    ensures { λ r. ⌜ r ≡ unmoved scalars answer ⌝ }
 {
     Effect {
         answer,
-        scalars: m.scalars(),
+        scalars,
         store: GpeStore::nothing(),
         next: NextState::Same,
     }

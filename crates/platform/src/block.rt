@@ -37,7 +37,11 @@ pub fn offset(b: Block, port: u64) -> u64
 pub fn holds_port(b: Block, port: u64) -> bool
     ensures { λ r. ⌜ r ≡ holds b port ⌝ }
 {
-    is_present(b) & ((b.address <= port) & (offset(b, port) < b.length as u64))
+    if b.address <= port {
+        is_present(b) & (port - b.address < b.length as u64)
+    } else {
+        false
+    }
 }
 
 // The lower block has to hold the other's first port; a block above another is present.

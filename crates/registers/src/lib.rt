@@ -7,15 +7,18 @@ use bits::pick8;
 use bits::pick16;
 use bits::pick32;
 use machine::GPE_BYTES;
-use machine::Machine;
+use machine::Scalars;
 use machine::has_bit;
 use platform::Settings;
 ghost use mathlib.Core.Path.{_≡_};
 ghost use Prim.Native.Nat.{_-_, _%_, _^_};
+ghost use mathlib.Core.Bool.{cond};
 ghost use lib.Bits.{bitAnd};
 ghost use lib.ListN.{getD};
 ghost use Rattle.bits.specs.Writes.{clearedBy, takenBy};
-ghost use Rattle.registers.specs.Registers.{homesIn, statusIn, enableIn, shown, covered, placed, statusRegister, enableRegister, clearable, controlIn, hasPm1bCnt, slpTyp, controlRegister, coversLow, coversHigh, writtenBit, gpeHalf, gpeSts, gpeEn, inGpeStatus, gpeStsByte, gpeEnByte};
+ghost use Rattle.machine.specs.PowerOn.{noSettings};
+ghost use Rattle.machine.specs.Scalars.{bare};
+ghost use Rattle.registers.specs.Registers.{homesIn, statusIn, enableIn, shown, covered, placed, controlIn, hasPm1bCnt, slpTyp, controlRegister, coversLow, coversHigh, writtenBit, gpeHalf, inGpeStatus};
 
 // The bits that live in the block, B or A.
 fn homes_in(homes: u16, b: bool) -> u16
@@ -72,25 +75,22 @@ fn high_in(written: u32, mask: u16) -> u16
 }
 
 // What the block's status half (PM1a_STS, PM1b_STS) and its enable half (PM1a_EN, PM1b_EN) show.
-pub fn status_register(m: Machine, b: bool) -> u16
-    ensures { λ r. ⌜ r ≡ statusRegister m b ⌝ }
+pub fn status_register(s: Settings, pm1_sts: u16, b: bool) -> u16
+    ensures { λ r. ⌜ r ≡ bitAnd «pm1_sts» (statusIn s b) ⌝ }
 {
-    let s = m.settings;
-    m.pm1_sts & status_in(s, b)
+    pm1_sts & status_in(s, b)
 }
 
-pub fn enable_register(m: Machine, b: bool) -> u16
-    ensures { λ r. ⌜ r ≡ enableRegister m b ⌝ }
+pub fn enable_register(s: Settings, pm1_en: u16, b: bool) -> u16
+    ensures { λ r. ⌜ r ≡ bitAnd «pm1_en» (enableIn s b) ⌝ }
 {
-    let s = m.settings;
-    m.pm1_en & enable_in(s, b)
+    pm1_en & enable_in(s, b)
 }
 
 // The status bits that a write to the block may clear.
-pub fn clearable(m: Machine, b: bool) -> u16
-    ensures { λ r. ⌜ r ≡ clearable m b ⌝ }
+pub fn clearable(s: Settings, b: bool) -> u16
+    ensures { λ r. ⌜ r ≡ statusIn s b ⌝ }
 {
-    let s = m.settings;
     status_in(s, b)
 }
 
@@ -154,10 +154,10 @@ pub fn has_pm1b_cnt(s: Settings) -> bool
     platform::is_present(cnt_b)
 }
 
-fn slp_typ(m: Machine, b: bool) -> u8
-    ensures { λ r. ⌜ r ≡ slpTyp m b ⌝ }
+fn slp_typ(x: Scalars, b: bool) -> u8
+    ensures { λ r. ⌜ r ≡ slpTyp (bare noSettings x) b ⌝ }
 {
-    pick8(b, m.slp_typ_b, m.slp_typ_a)
+    pick8(b, x.slp_typ_b, x.slp_typ_a)
 }
 
 // A control register with the one bit set, and with a sleep type of one.
@@ -168,13 +168,12 @@ const BM_RLD_SET: u32 = 1 << BM_RLD;
 const SLP_TYP_UNIT: u32 = 1 << SLP_TYPx;
 
 // PM1a_CNT, or PM1b_CNT: SCI_EN and BM_RLD in their homes, SLP_TYP in both; GBL_RLS and SLP_EN read zero.
-pub fn control_register(m: Machine, b: bool) -> u32
-    ensures { λ r. ⌜ r ≡ controlRegister m b ⌝ }
+pub fn control_register(s: Settings, x: Scalars, b: bool) -> u32
+    ensures { λ r. ⌜ r ≡ controlRegister (bare s x) b ⌝ }
 {
-    let s = m.settings;
-    let sci_en = pick32(control_in(s, b, SCI_EN) & m.sci_en, SCI_EN_SET, 0);
-    let bm_rld = pick32(control_in(s, b, BM_RLD) & m.bm_rld, BM_RLD_SET, 0);
-    let typ = slp_typ(m, b) as u32;
+    let sci_en = pick32(control_in(s, b, SCI_EN) & x.sci_en, SCI_EN_SET, 0);
+    let bm_rld = pick32(control_in(s, b, BM_RLD) & x.bm_rld, BM_RLD_SET, 0);
+    let typ = slp_typ(x, b) as u32;
     sci_en | bm_rld | (typ % 8 * SLP_TYP_UNIT)
 }
 
@@ -220,18 +219,6 @@ pub fn past_status(s: Settings, b: bool, offset: u64) -> u64
     bits::past(offset, gpe_half(s, b) as u64)
 }
 
-fn gpe_sts(m: Machine, b: bool) -> [u8; GPE_BYTES]
-    ensures { λ r. ⌜ r ≡ gpeSts m b ⌝ }
-{
-    if b { m.gpe1_sts } else { m.gpe0_sts }
-}
-
-fn gpe_en(m: Machine, b: bool) -> [u8; GPE_BYTES]
-    ensures { λ r. ⌜ r ≡ gpeEn m b ⌝ }
-{
-    if b { m.gpe1_en } else { m.gpe0_en }
-}
-
 // The byte at a place; past the last there are none, and reads give zero.
 fn byte_at(bytes: [u8; GPE_BYTES], place: u64) -> u8
     ensures { λ r. ⌜ r ≡ getD bytes place 0 ⌝ }
@@ -240,18 +227,15 @@ fn byte_at(bytes: [u8; GPE_BYTES], place: u64) -> u8
     if i < GPE_BYTES { bytes[i] } else { 0 }
 }
 
-// The block's byte at an offset of its status half, and of its enable half.
-pub fn gpe_sts_byte(m: Machine, b: bool, offset: u64) -> u8
-    ensures { λ r. ⌜ r ≡ gpeStsByte m b offset ⌝ }
+// The block's byte at a place, of GPE0's array and GPE1's.
+pub fn gpe_byte(gpe0: [u8; GPE_BYTES], gpe1: [u8; GPE_BYTES], b: bool, place: u64) -> u8
+    ensures { λ r. ⌜ r ≡ getD (cond b gpe1 gpe0) place 0 ⌝ }
 {
-    byte_at(gpe_sts(m, b), offset)
-}
-
-pub fn gpe_en_byte(m: Machine, b: bool, offset: u64) -> u8
-    ensures { λ r. ⌜ r ≡ gpeEnByte m b offset ⌝ }
-{
-    let s = m.settings;
-    byte_at(gpe_en(m, b), past_status(s, b, offset))
+    if b {
+        byte_at(gpe1, place)
+    } else {
+        byte_at(gpe0, place)
+    }
 }
 
 pub fn low_byte(written: u32) -> u8
@@ -261,8 +245,8 @@ pub fn low_byte(written: u32) -> u8
 }
 
 // The status byte with the ones of the byte written cleared.
-pub fn gpe_sts_cleared(m: Machine, b: bool, offset: u64, written: u32) -> u8
-    ensures { λ r. ⌜ r ≡ clearedBy 8 (gpeStsByte m b offset) written 255 ⌝ }
+pub fn gpe_sts_cleared(sts: u8, written: u32) -> u8
+    ensures { λ r. ⌜ r ≡ clearedBy 8 sts written 255 ⌝ }
 {
-    bits::clear8(gpe_sts_byte(m, b, offset), low_byte(written), 255)
+    bits::clear8(sts, low_byte(written), 255)
 }

@@ -99,10 +99,15 @@ pub fn refused(pairs: [[u8; 2]; 6], b_control: bool) -> bool
     any_out_of_range(pairs) | any_shared(pairs, b_control)
 }
 
+// A's value first, since it tells most states apart.
 fn named(p: [u8; 2], q: [u8; 2], b_control: bool) -> bool
     ensures { λ r. ⌜ r ≡ named «b_control» q p ⌝ }
 {
-    !absent(p) & same_pair(p, q, b_control)
+    if p[0] == q[0] {
+        !absent(p) & same_pair(p, q, b_control)
+    } else {
+        false
+    }
 }
 
 // The number, 1 to 5, of the state that the pair (a, b) names, or 0: S0's pair and absent states match nothing.

@@ -7,6 +7,12 @@ ghost use Rattle.saved.specs.Text.{writtenBuffer};
 ghost use Rattle.saved.specs.Reading.{readOf};
 ghost use Rattle.speed_saved.specs.Texts.{readTurn, readsOf, counting, writeTurn, writesOf, bufferAfter};
 
+fn wide(x: u32) -> u64
+    ensures { λ r. ⌜ r ≡ x ⌝ }
+{
+    x as u64
+}
+
 // A text read once more; its answer's number and its machine's counter are added.
 fn read_turn(text: &[u8], sum: u64) -> u64
     ensures { λ r. ⌜ r ≡ readTurn (now (text .entry)) sum ⌝ }
@@ -15,7 +21,7 @@ fn read_turn(text: &[u8], sum: u64) -> u64
     let answer = back.answer;
     let machine = back.machine;
     let counted = wrapping_add_u64(sum, saved::read_number(answer) as u64);
-    wrapping_add_u64(counted, machine.counter as u64)
+    wrapping_add_u64(counted, wide(machine.counter))
 }
 
 #[no_mangle]

@@ -76,8 +76,8 @@ stepAt row.Interrupt k p older = interruptAt k p older
 stepAt row.Sleep k p older = sleepAt k p
 
 -- after the last place comes the first
-unfoldable pub nextPlace : Row → ℕ → ℕ
-nextPlace r k = cond (ltb k (lastOf r)) (k + 1) 0
+unfoldable pub nextPlace : ℕ → ℕ → ℕ
+nextPlace last k = cond (ltb k last) (k + 1) 0
 
 -- ---- a run
 
@@ -94,7 +94,7 @@ linesIf row.Sleep k r = r
 -- n steps of the row from a place on
 unfoldable pub runSteps : Row → Ports → ℕ → ℕ → Run → Run
 runSteps x p zero k r = r
-runSteps x p (suc n) k r = runSteps x p n (nextPlace x k) (linesIf x k (runStep r (stepAt x k p (r .older))))
+runSteps x p (suc n) k r = runSteps x p n (nextPlace (lastOf x) k) (linesIf x k (runStep r (stepAt x k p (r .older))))
 
 -- the run whole: set up as in the worked session, prepared, n steps
 unfoldable pub stepsRun : List ℕ → ℕ → ℕ → ℕ → ℕ

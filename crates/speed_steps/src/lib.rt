@@ -152,10 +152,10 @@ fn step_at(row: Row, k: u64, p: Ports, older: u32) -> Step
     }
 }
 
-fn next_place(row: Row, k: u64) -> u64
-    ensures { λ r. ⌜ r ≡ nextPlace row k ⌝ }
+fn next_place(last: u64, k: u64) -> u64
+    ensures { λ r. ⌜ r ≡ nextPlace last k ⌝ }
 {
-    if k < last_of(row) { k + 1 } else { 0 }
+    if k < last { k + 1 } else { 0 }
 }
 
 // The lines at the end of an interrupt round.
@@ -183,12 +183,13 @@ fn steps(start: Run, row: Row, p: Ports, n: u64) -> Run
     ensures { λ r. ⌜ r ≡ runSteps row p n 0 start ⌝ }
 {
     let mut r = start;
+    let last = last_of(row);
     let mut k: u64 = 0;
     let mut left = n;
     while 0 < left {
         let s = step_at(row, k, p, r.older);
         r = lines_if(row, k, done(r, s));
-        k = next_place(row, k);
+        k = next_place(last, k);
         left -= 1;
     }
     r

@@ -1,6 +1,10 @@
--- A step is the step of its kind.
+-- A step is the step of its kind. Assumes nothing.
 use mathlib.Core.Path.{_≡_, refl, _∙_, ap}
 use Rattle.machine.specs.declared.Machine.{Machine}
+use Rattle.machine.specs.PowerOn.{noSettings}
+use Rattle.machine.specs.Scalars.{bare, scalarsOf}
+use Rattle.machine.specs.declared.scalars.Scalars.{Scalars}
+use Rattle.model.proofs.Effects.{take-bare, drop-bare}
 use Rattle.model.specs.Effect.{effectOf}
 use Rattle.model.specs.declared.Effect.{Effect}
 use Rattle.model.specs.declared.Step.{Step}
@@ -19,3 +23,10 @@ kind-step step.Drop = refl
 -- the effect of the step's kind is the step's
 pub effect-by-kind : (m : Machine) (s : Step) (k : StepKind) (given : Effect) → k ≡ stepKind s → given ≡ effectOf m (ofKind k) → given ≡ effectOf m s
 effect-by-kind m s k given e d = d ∙ ap (λ x. effectOf m (ofKind x)) e ∙ ap (effectOf m) (kind-step s)
+
+-- what the machine's settings and scalars give is the machine's
+pub machine-take : (m : Machine) (x : Scalars) (given : Effect) → x ≡ scalarsOf m → given ≡ effectOf (bare (m .settings) x) step.Take → given ≡ effectOf m step.Take
+machine-take m x given e d = d ∙ ap (λ (y : Scalars). effectOf (bare (m .settings) y) step.Take) e ∙ take-bare m
+
+pub machine-drop : (m : Machine) (x : Scalars) (given : Effect) → x ≡ scalarsOf m → given ≡ effectOf (bare noSettings x) step.Drop → given ≡ effectOf m step.Drop
+machine-drop m x given e d = d ∙ ap (λ (y : Scalars). effectOf (bare noSettings y) step.Drop) e ∙ drop-bare m

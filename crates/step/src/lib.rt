@@ -54,12 +54,13 @@ fn kind_of(s: Step) -> StepKind
 fn effect(m: Machine, s: Step) -> Effect
     ensures { λ r. ⌜ r ≡ effectOf m s ⌝ }
 {
+    let settings = m.settings;
     let kind = kind_of(s);
     match kind {
         StepKind::Bus(t) => bus::access(m, t),
         StepKind::Event(e) => events::event(m, e),
-        StepKind::Take => firmware::take(m),
-        StepKind::Drop => firmware::drop(m),
+        StepKind::Take => firmware::take(settings, m.scalars()),
+        StepKind::Drop => firmware::drop(m.scalars()),
     }
 }
 

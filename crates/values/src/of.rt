@@ -109,13 +109,14 @@ fn settings_values(s: Settings) -> [u64; 28]
 fn machine_values(m: Machine) -> [u64; 14]
     ensures { λ r. ⌜ r ≡ machineValues m ⌝ }
 {
+    let s = m.settings;
     [
-        wide16(registers::status_register(m, false)),
-        wide16(registers::status_register(m, true)),
-        wide16(registers::enable_register(m, false)),
-        wide16(registers::enable_register(m, true)),
-        wide32(registers::control_register(m, false)),
-        wide32(registers::control_register(m, true)),
+        wide16(registers::status_register(s, m.pm1_sts, false)),
+        wide16(registers::status_register(s, m.pm1_sts, true)),
+        wide16(registers::enable_register(s, m.pm1_en, false)),
+        wide16(registers::enable_register(s, m.pm1_en, true)),
+        wide32(registers::control_register(s, m.scalars(), false)),
+        wide32(registers::control_register(s, m.scalars(), true)),
         arb_dis_value(m.arb_dis),
         wide32(m.counter),
         wide32(m.hold),

@@ -5,6 +5,9 @@ use borrow.Author.Needs.{needs}
 use Rattle.bus.proofs.read.Statement.{statement}
 use Rattle.bus.proofs.read.Tie as tie
 
+scalars-requires : tie.Need-scalars-requires
+scalars-requires c κs = search needs
+
 read-answer-requires : tie.Need-read-answer-requires
 read-answer-requires c κs = search needs
 
@@ -13,7 +16,7 @@ unmoved-requires c κs = search needs
 
 returns : tie.Need-returns
 unfolding effectOf answerTo registerAt offsetAt
-returns c = simp (c .unmoved .ensures, c .before .read-answer .ensures, c .before .before .pre)
+returns c = simp (c .unmoved .ensures, c .before .read-answer .ensures, c .before .before .scalars .ensures, c .before .before .before .pre)
 
 pub read-spec : {M : Type 1} → statement M
-read-spec = tie.close (tie.spec read-answer-requires unmoved-requires returns)
+read-spec = tie.close (tie.spec scalars-requires read-answer-requires unmoved-requires returns)

@@ -1,3 +1,4 @@
+use Rattle.model.specs.Control.{typAfter}
 use borrow.Author.Needs.{needs}
 use Rattle.control.proofs.controlled.Statement.{statement}
 use Rattle.control.proofs.controlled.Tie as tie
@@ -17,11 +18,12 @@ typ-after-requires-2 c κs = search needs
 armed-after-requires : tie.Need-armed-after-requires
 armed-after-requires c κs = search needs
 
-scalars-requires : tie.Need-scalars-requires
-scalars-requires c κs = search needs
+copied-requires : tie.Need-copied-requires
+copied-requires c κs = search needs
 
 returns : tie.Need-returns
-returns c = simp (c .scalars .ensures, c .before .armed-after .ensures, c .before .before .typ-after2 .ensures, c .before .before .before .typ-after .ensures, c .before .before .before .before .gbl-rls-after .ensures, c .before .before .before .before .before .bm-rld-after .ensures)
+unfolding typAfter
+returns c = simp (c .copied .ensures, c .before .armed-after .ensures, c .before .before .typ-after2 .ensures, c .before .before .before .typ-after .ensures, c .before .before .before .before .gbl-rls-after .ensures, c .before .before .before .before .before .bm-rld-after .ensures)
 
 pub controlled-spec : {M : Type 1} → statement M
 controlled-spec =
@@ -32,5 +34,5 @@ controlled-spec =
     typ-after-requires
     typ-after-requires-2
     armed-after-requires
-    scalars-requires
+    copied-requires
     returns)

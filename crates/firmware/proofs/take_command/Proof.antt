@@ -8,12 +8,12 @@ enables-after-requires c κs = search needs
 sci-en-after-requires : tie.Need-sci-en-after-requires
 sci-en-after-requires c κs = search needs
 
-scalars-requires : tie.Need-scalars-requires
-scalars-requires c κs = search needs
+copied-requires : tie.Need-copied-requires
+copied-requires c κs = search needs
 
 returns : tie.Need-returns
-returns c = simp (c .scalars .ensures, c .before .sci-en-after .ensures, c .before .before .enables-after .ensures)
+returns c = simp (c .copied .ensures, c .before .sci-en-after .ensures, c .before .before .enables-after .ensures)
 
 pub take-command-spec : {M : Type 1} → statement M
 take-command-spec =
-    tie.close (tie.spec enables-after-requires sci-en-after-requires scalars-requires returns)
+    tie.close (tie.spec enables-after-requires sci-en-after-requires copied-requires returns)

@@ -3,9 +3,6 @@ use borrow.Author.Needs.{needs}
 use Rattle.registers.proofs.gpe_sts_cleared.Statement.{statement}
 use Rattle.registers.proofs.gpe_sts_cleared.Tie as tie
 
-gpe-sts-byte-requires : tie.Need-gpe-sts-byte-requires
-gpe-sts-byte-requires c κs = search needs
-
 low-byte-requires : tie.Need-low-byte-requires
 low-byte-requires c κs = search needs
 
@@ -13,8 +10,7 @@ clear8-requires : tie.Need-clear8-requires
 clear8-requires c κs = search needs
 
 returns : tie.Need-returns
-returns c = simp (c .clear8 .ensures, c .before .low-byte .ensures, c .before .before .gpe-sts-byte .ensures, low-ones)
+returns c = simp (c .clear8 .ensures, c .before .low-byte .ensures, low-ones)
 
 pub gpe-sts-cleared-spec : {M : Type 1} → statement M
-gpe-sts-cleared-spec =
-    tie.close (tie.spec gpe-sts-byte-requires low-byte-requires clear8-requires returns)
+gpe-sts-cleared-spec = tie.close (tie.spec low-byte-requires clear8-requires returns)

@@ -4,19 +4,16 @@ use borrow.Author.Tests.{lt-ltb, le-ltb}
 use Rattle.speed_steps.proofs.next_place.Statement.{statement}
 use Rattle.speed_steps.proofs.next_place.Tie as tie
 
-last-of-requires : tie.Need-last-of-requires
-last-of-requires c κs = search needs
-
 add-result : tie.Need-add-result
 add-result c = search needs
 
 returns : tie.Need-returns
 unfolding nextPlace
-returns c = rw (← c .before .last-of .ensures, lt-ltb _ _ (c .if1 .taken))
+returns c = rw (lt-ltb _ _ (c .if1 .taken))
 
 returns-2 : tie.Need-returns-2
 unfolding nextPlace
-returns-2 c = rw (← c .before .last-of .ensures, le-ltb _ _ (c .if1 .left))
+returns-2 c = rw (le-ltb _ _ (c .if1 .left))
 
 pub next-place-spec : {M : Type 1} → statement M
-next-place-spec = tie.close (tie.spec last-of-requires add-result returns returns-2)
+next-place-spec = tie.close (tie.spec add-result returns returns-2)

@@ -10,10 +10,13 @@ use Rattle.speed_steps.proofs.steps.Statement.{statement}
 use Rattle.speed_steps.proofs.steps.Tie as tie
 
 abbrev Inv-loop : tie.InvT-loop
-Inv-loop row p n r₀ k₀ left₀ r k left = runSteps row p left k r ≡ runSteps row p n 0 r₀
+Inv-loop row p n r₀ last₀ k₀ left₀ r k left = runSteps row p left k r ≡ runSteps row p n 0 r₀
 
 abbrev μ-loop : tie.MeasureT-loop
-μ-loop row p n r₀ k₀ left₀ r k left = left
+μ-loop row p n r₀ last₀ k₀ left₀ r k left = left
+
+last-of-requires : tie.Need-last-of-requires Inv-loop μ-loop
+last-of-requires c κs = search needs
 
 loop-holds : tie.Need-loop-holds Inv-loop μ-loop
 loop-holds c = refl
@@ -40,7 +43,7 @@ loop-again : tie.Need-loop-again Inv-loop μ-loop
 loop-again c =
     let at : _ = c .before .before .before .before .before in
     let k : at .loop .left ≡ suc (at .loop .left - 1) = omega arith in
-    rw (c .next-place .ensures, c .before .lines-if .ensures, c .before .before .done .ensures, c .before .before .before .step-at .ensures, ← steps-turn, ← k)
+    rw (c .next-place .ensures, at .before .last-of .ensures, c .before .lines-if .ensures, c .before .before .done .ensures, c .before .before .before .step-at .ensures, ← steps-turn, ← k)
     (at .loop .inv)
 
 returns : tie.Need-returns Inv-loop μ-loop
@@ -55,6 +58,7 @@ steps-spec =
     (tie.spec
     Inv-loop
     μ-loop
+    last-of-requires
     loop-holds
     step-at-requires
     done-requires

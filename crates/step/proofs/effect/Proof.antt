@@ -1,6 +1,6 @@
 use Rattle.step.specs.Kinds.{ofKind}
 use Rattle.step.specs.declared.StepKind.the-variants as kind
-use Rattle.step.proofs.Laws.{effect-by-kind}
+use Rattle.step.proofs.Laws.{effect-by-kind, machine-take, machine-drop}
 use mathlib.Core.Path.{sym, _∙_}
 use borrow.Author.Needs.{needs}
 use Rattle.step.proofs.effect.Statement.{statement}
@@ -24,11 +24,17 @@ event-requires c κs = search needs
 enum-told : tie.Need-enum-told
 enum-told c = search needs
 
+scalars-requires : tie.Need-scalars-requires
+scalars-requires c κs = search needs
+
 take-requires : tie.Need-take-requires
 take-requires c κs = search needs
 
 enum-told-2 : tie.Need-enum-told-2
 enum-told-2 c = search needs
+
+scalars-requires-2 : tie.Need-scalars-requires-2
+scalars-requires-2 c κs = search needs
 
 drop-requires : tie.Need-drop-requires
 drop-requires c κs = search needs
@@ -43,11 +49,15 @@ returns-2 c = effect-by-kind _ _ (kind.Event _) _ (sym (c .before .before .kind2
 
 returns-3 : tie.Need-returns-3
 unfolding ofKind
-returns-3 c = effect-by-kind _ _ kind.Take _ (sym (c .before .enum-told .given .1) ∙ c .before .before .before .kind-of .ensures) (c .take .ensures)
+returns-3 c =
+    effect-by-kind _ _ kind.Take _ (sym (c .before .before .enum-told .given .1) ∙ c .before .before .before .before .kind-of .ensures)
+    (machine-take _ _ _ (c .before .scalars .ensures) (c .take .ensures))
 
 returns-4 : tie.Need-returns-4
 unfolding ofKind
-returns-4 c = effect-by-kind _ _ kind.Drop _ (sym (c .before .enum-told2 .given .1) ∙ c .before .before .before .kind-of .ensures) (c .drop .ensures)
+returns-4 c =
+    effect-by-kind _ _ kind.Drop _ (sym (c .before .before .enum-told2 .given .1) ∙ c .before .before .before .before .kind-of .ensures)
+    (machine-drop _ _ _ (c .before .scalars2 .ensures) (c .drop .ensures))
 
 pub effect-spec : {M : Type 1} → statement M
 effect-spec =
@@ -59,8 +69,10 @@ effect-spec =
     enum-known-kind-2
     event-requires
     enum-told
+    scalars-requires
     take-requires
     enum-told-2
+    scalars-requires-2
     drop-requires
     returns
     returns-2

@@ -1,4 +1,4 @@
-use mathlib.Core.Path.{_∙_}
+use Rattle.machine.specs.Scalars.{bare}
 use Rattle.registers.specs.Registers.{inStatus, inEnable, statusAfter, enableAfter}
 use Rattle.model.specs.declared.Register.the-variants as register
 use Rattle.bus.proofs.Laws.{past-four, event-write-past}
@@ -42,9 +42,6 @@ enable-high-requires c κs = search needs
 with-event-requires-4 : tie.Need-with-event-requires-4
 with-event-requires-4 c κs = search needs
 
-scalars-requires : tie.Need-scalars-requires
-scalars-requires c κs = search needs
-
 returns : tie.Need-returns
 unfolding statusAfter enableAfter inStatus inEnable
 returns c = simp (c .with-event .ensures, c .before .status-low .ensures, c .before .before .clearable .ensures, c .before .before .before .match .keys1)
@@ -63,9 +60,9 @@ returns-4 c = simp (c .with-event4 .ensures, c .before .enable-high .ensures, c 
 
 returns-5 : tie.Need-returns-5
 returns-5 c =
-    let at : _ = c .before .before .before .args in
-    let q : _ = c .before .match .rest in
-    c .scalars .ensures ∙ event-write-past (at .m) register.Nowhere (at .b) (at .width) (at .offset) (at .written) (past-four _ (q .0 .0 .0 .1) (q .0 .0 .1) (q .0 .1) (q .1))
+    let at : _ = c .before .args in
+    let q : _ = c .match .rest in
+    event-write-past (bare (at .s) (at .x)) register.Nowhere (at .b) (at .width) (at .offset) (at .written) (past-four _ (q .0 .0 .0 .1) (q .0 .0 .1) (q .0 .1) (q .1))
 
 pub event-written-spec : {M : Type 1} → statement M
 event-written-spec =
@@ -83,7 +80,6 @@ event-written-spec =
     enable-in-requires-2
     enable-high-requires
     with-event-requires-4
-    scalars-requires
     returns
     returns-2
     returns-3

@@ -39,6 +39,9 @@ read-high-requires-2 c κs = search needs
 enum-known-r-2 : tie.Need-enum-known-r-2
 enum-known-r-2 c = search needs
 
+scalars-requires : tie.Need-scalars-requires
+scalars-requires c κs = search needs
+
 control-register-requires : tie.Need-control-register-requires
 control-register-requires c κs = search needs
 
@@ -66,14 +69,17 @@ enum-known-r-3 c = search needs
 gpe-number-requires : tie.Need-gpe-number-requires
 gpe-number-requires c κs = search needs
 
-gpe-sts-byte-requires : tie.Need-gpe-sts-byte-requires
-gpe-sts-byte-requires c κs = search needs
+gpe-byte-requires : tie.Need-gpe-byte-requires
+gpe-byte-requires c κs = search needs
 
 cast-result : tie.Need-cast-result
 cast-result c = search needs
 
-gpe-en-byte-requires : tie.Need-gpe-en-byte-requires
-gpe-en-byte-requires c κs = search needs
+past-status-requires : tie.Need-past-status-requires
+past-status-requires c κs = search needs
+
+gpe-byte-requires-2 : tie.Need-gpe-byte-requires-2
+gpe-byte-requires-2 c κs = search needs
 
 cast-result-2 : tie.Need-cast-result-2
 cast-result-2 c = search needs
@@ -106,14 +112,14 @@ returns-6 c = let q : _ = c .match2 .rest in event-read-past _ _ _ _ _ (c .befor
 
 returns-7 : tie.Need-returns-7
 unfolding readOf
-returns-7 c = simp (c .read-low3 .ensures, c .before .before .control-register .ensures, c .before .before .before .before .r2 .given .1, c .before .match3 .keys1)
+returns-7 c = simp (c .read-low3 .ensures, c .before .before .control-register .ensures, c .before .before .before .scalars .ensures, c .before .before .before .before .before .r2 .given .1, c .before .match3 .keys1)
 
 returns-8 : tie.Need-returns-8
 unfolding readOf
-returns-8 c = simp (c .read-high3 .ensures, c .before .before .control-register .ensures, c .before .before .before .before .r2 .given .1, c .before .match3 .keys2)
+returns-8 c = simp (c .read-high3 .ensures, c .before .before .control-register .ensures, c .before .before .before .scalars .ensures, c .before .before .before .before .before .r2 .given .1, c .before .match3 .keys2)
 
 returns-9 : tie.Need-returns-9
-returns-9 c = let q : _ = c .match3 .rest in control-read-past _ _ _ _ _ (c .before .before .before .r2 .given .1) (past-two _ (q .0 .1) (q .1))
+returns-9 c = let q : _ = c .match3 .rest in control-read-past _ _ _ _ _ (c .before .before .before .before .r2 .given .1) (past-two _ (q .0 .1) (q .1))
 
 returns-10 : tie.Need-returns-10
 unfolding readOf
@@ -125,11 +131,11 @@ returns-11 c = simp (c .timer-register .ensures, c .before .enum-told3 .given .1
 
 returns-12 : tie.Need-returns-12
 unfolding readOf
-returns-12 c = simp (c .gpe-sts-byte .ensures, cell-in-status _ _ _ _ (c .before .before .gpe-number .ensures) (c .before .if1 .taken), c .before .before .before .before .r3 .given .1)
+returns-12 c = simp (c .gpe-byte .ensures, cell-in-status _ _ _ _ (c .before .before .before .before .gpe-number .ensures) (c .before .before .before .if1 .taken), c .before .before .before .before .before .before .r3 .given .1)
 
 returns-13 : tie.Need-returns-13
 unfolding readOf
-returns-13 c = simp (c .gpe-en-byte .ensures, cell-past-status _ _ _ _ (c .before .before .gpe-number .ensures) (c .before .if1 .left), c .before .before .before .before .r3 .given .1)
+returns-13 c = simp (c .gpe-byte2 .ensures, c .before .past-status .ensures, cell-past-status _ _ _ _ (c .before .before .before .before .before .gpe-number .ensures) (c .before .before .before .before .if1 .left), c .before .before .before .before .before .before .before .r3 .given .1)
 
 returns-14 : tie.Need-returns-14
 unfolding readOf
@@ -150,6 +156,7 @@ read-cells-spec =
     read-low-requires-2
     read-high-requires-2
     enum-known-r-2
+    scalars-requires
     control-register-requires
     read-low-requires-3
     read-high-requires-3
@@ -159,9 +166,10 @@ read-cells-spec =
     timer-register-requires
     enum-known-r-3
     gpe-number-requires
-    gpe-sts-byte-requires
+    gpe-byte-requires
     cast-result
-    gpe-en-byte-requires
+    past-status-requires
+    gpe-byte-requires-2
     cast-result-2
     enum-told-4
     returns

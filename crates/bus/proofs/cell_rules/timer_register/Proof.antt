@@ -5,7 +5,6 @@ use Prim.Native.Nat.{ℕ, _%_, _^_, _<_}
 use native.Mathlib.Nat.{mod-eq-of-lt}
 use Rattle.clock.specs.Clock.{counterBits}
 use Rattle.platform.specs.Fitted.{wideTimer}
-use Rattle.machine.specs.declared.Machine.{Machine}
 use borrow.Author.Needs.{needs}
 use Rattle.bus.proofs.cell_rules.timer_register.Statement.{statement}
 use Rattle.bus.proofs.cell_rules.timer_register.Tie as tie
@@ -23,8 +22,8 @@ pick32-requires c κs = search needs
 
 returns : tie.Need-returns
 returns c =
-    let m : Machine = c .before .before .before .before .args .m in
-    simp (c .pick32 .ensures, c .before .before .wide-timer .ensures) (narrowed (wideTimer (m .settings)) (m .counter) (search needs))
+    let at : _ = c .before .before .args in
+    simp (c .pick32 .ensures, c .before .wide-timer .ensures) (narrowed (wideTimer (at .s)) (at .counter) (search needs))
 
 pub timer-register-spec : {M : Type 1} → statement M
 timer-register-spec = tie.close (tie.spec wide-timer-requires pick32-requires returns)

@@ -1,7 +1,9 @@
-use mathlib.Core.Path.{sym, _∙_}
+use mathlib.Core.Path.{refl, sym, _∙_}
 use Rattle.model.specs.Effect.{eventEffect}
 use Rattle.model.specs.Answer.{firstApplying}
 use Rattle.model.specs.Effect.{pressEffect}
+use Rattle.model.specs.declared.Answer.the-variants as answer
+use Rattle.model.proofs.Effects.{event-refused}
 use borrow.Author.Needs.{needs}
 use Rattle.events.proofs.buttons.press.Statement.{statement}
 use Rattle.events.proofs.buttons.press.Tie as tie
@@ -25,8 +27,10 @@ unmoved-requires-2 : tie.Need-unmoved-requires-2
 unmoved-requires-2 c κs = search needs
 
 returns : tie.Need-returns
-unfolding eventEffect firstApplying pressEffect
-returns c = simp (c .unmoved .ensures, c .before .if2 .taken, sym (c .before .before .before .fits2 .ensures) ∙ c .before .before .if1 .taken)
+unfolding firstApplying
+returns c =
+    c .unmoved .ensures
+    ∙ sym (event-refused _ _ _ answer.ButtonAlready (simp (c .before .if2 .taken, sym (c .before .before .before .fits2 .ensures) ∙ c .before .before .if1 .taken)) refl)
 
 returns-2 : tie.Need-returns-2
 unfolding eventEffect firstApplying pressEffect

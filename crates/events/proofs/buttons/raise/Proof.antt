@@ -2,11 +2,11 @@ use borrow.Author.Needs.{needs}
 use Rattle.events.proofs.buttons.raise.Statement.{statement}
 use Rattle.events.proofs.buttons.raise.Tie as tie
 
-scalars-requires : tie.Need-scalars-requires
-scalars-requires c κs = search needs
+copied-requires : tie.Need-copied-requires
+copied-requires c κs = search needs
 
 returns : tie.Need-returns
-returns c = simp (c .before .scalars .ensures)
+returns c = simp (c .before .copied .ensures)
 
 pub raise-spec : {M : Type 1} → statement M
-raise-spec = tie.close (tie.spec scalars-requires returns)
+raise-spec = tie.close (tie.spec copied-requires returns)

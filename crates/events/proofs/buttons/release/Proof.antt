@@ -1,7 +1,9 @@
-use mathlib.Core.Path.{sym, _∙_}
+use mathlib.Core.Path.{refl, sym, _∙_}
 use Rattle.model.specs.Effect.{eventEffect}
 use Rattle.model.specs.Answer.{firstApplying}
 use Rattle.model.specs.Effect.{releaseEffect}
+use Rattle.model.specs.declared.Answer.the-variants as answer
+use Rattle.model.proofs.Effects.{event-refused}
 use borrow.Author.Needs.{needs}
 use Rattle.events.proofs.buttons.release.Statement.{statement}
 use Rattle.events.proofs.buttons.release.Tie as tie
@@ -26,8 +28,10 @@ unfolding eventEffect firstApplying releaseEffect
 returns c = simp (c .done .ensures, c .before .button-up .ensures, c .before .before .if2 .taken, sym (c .before .before .before .before .fits2 .ensures) ∙ c .before .before .before .if1 .taken)
 
 returns-2 : tie.Need-returns-2
-unfolding eventEffect firstApplying releaseEffect
-returns-2 c = simp (c .unmoved .ensures, c .before .if2 .left, sym (c .before .before .before .fits2 .ensures) ∙ c .before .before .if1 .taken)
+unfolding firstApplying
+returns-2 c =
+    c .unmoved .ensures
+    ∙ sym (event-refused _ _ _ answer.ButtonAlready (simp (c .before .if2 .left, sym (c .before .before .before .fits2 .ensures) ∙ c .before .before .if1 .taken)) refl)
 
 returns-3 : tie.Need-returns-3
 unfolding eventEffect firstApplying releaseEffect

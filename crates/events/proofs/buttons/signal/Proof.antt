@@ -16,11 +16,11 @@ unmoved-requires c κs = search needs
 
 returns : tie.Need-returns
 unfolding eventEffect firstApplying
-returns c = simp (c .raise-signal .ensures, rw (c .before .before .before .before .pre) at (sym (c .before .before .fits2 .ensures) ∙ c .before .if1 .taken))
+returns c = simp (c .raise-signal .ensures, rw (c .before .before .before .pre) at (sym (c .before .before .fits2 .ensures) ∙ c .before .if1 .taken))
 
 returns-2 : tie.Need-returns-2
 unfolding eventEffect firstApplying
-returns-2 c = simp (c .unmoved .ensures, rw (c .before .before .before .before .pre) at (sym (c .before .before .fits2 .ensures) ∙ c .before .if1 .left))
+returns-2 c = simp (c .unmoved .ensures, rw (c .before .before .before .pre) at (sym (c .before .before .fits2 .ensures) ∙ c .before .if1 .left))
 
 pub signal-spec : {M : Type 1} → statement M
 signal-spec =

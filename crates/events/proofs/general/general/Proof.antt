@@ -14,6 +14,9 @@ in-gpe1-requires c κs = search needs
 raise-general-requires : tie.Need-raise-general-requires
 raise-general-requires c κs = search needs
 
+scalars-requires : tie.Need-scalars-requires
+scalars-requires c κs = search needs
+
 unmoved-requires : tie.Need-unmoved-requires
 unmoved-requires c κs = search needs
 
@@ -23,7 +26,7 @@ returns c = simp (c .raise-general .ensures, sym (c .before .before .in-gpe1 .en
 
 returns-2 : tie.Need-returns-2
 unfolding eventEffect firstApplying
-returns-2 c = simp (c .unmoved .ensures, sym (c .before .before .in-gpe1 .ensures), sym (c .before .before .before .in-gpe0 .ensures), c .before .if1 .left)
+returns-2 c = simp (c .unmoved .ensures, c .before .scalars .ensures, sym (c .before .before .before .in-gpe1 .ensures), sym (c .before .before .before .before .in-gpe0 .ensures), c .before .before .if1 .left)
 
 pub general-spec : {M : Type 1} → statement M
 general-spec =
@@ -32,6 +35,7 @@ general-spec =
     in-gpe0-requires
     in-gpe1-requires
     raise-general-requires
+    scalars-requires
     unmoved-requires
     returns
     returns-2)

@@ -1,5 +1,4 @@
 use mathlib.Core.Path.{sym, _∙_}
-use Rattle.model.specs.Events.{generalEnabled}
 use borrow.Author.Needs.{needs}
 use Rattle.events.proofs.general.general_enabled.Statement.{statement}
 use Rattle.events.proofs.general.general_enabled.Tie as tie
@@ -17,11 +16,9 @@ is-enabled-requires-2 : tie.Need-is-enabled-requires-2
 is-enabled-requires-2 c κs = search needs
 
 returns : tie.Need-returns
-unfolding generalEnabled
 returns c = simp (c .is-enabled .ensures, sym (c .before .before .in-gpe0 .ensures) ∙ c .before .if1 .taken)
 
 returns-2 : tie.Need-returns-2
-unfolding generalEnabled
 returns-2 c = simp (c .is-enabled2 .ensures, c .before .number-in .ensures, sym (c .before .before .before .in-gpe0 .ensures) ∙ c .before .before .if1 .left)
 
 pub general-enabled-spec : {M : Type 1} → statement M

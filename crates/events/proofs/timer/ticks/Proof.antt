@@ -1,3 +1,4 @@
+use Rattle.machine.specs.Lines.{awake}
 use mathlib.Core.Path.{sym, _∙_}
 use Rattle.model.specs.Effect.{eventEffect}
 use Rattle.model.specs.Answer.{firstApplying}
@@ -28,11 +29,11 @@ unmoved-requires : tie.Need-unmoved-requires
 unmoved-requires c κs = search needs
 
 returns : tie.Need-returns
-unfolding eventEffect firstApplying ticksEffect
+unfolding awake eventEffect firstApplying ticksEffect
 returns c = simp (c .done .ensures, c .before .overridden-if .ensures, c .before .before .timed .ensures, c .before .before .before .ticks .ensures, sym (c .before .before .before .before .before .awake .ensures) ∙ c .before .before .before .before .if1 .taken, c .before .before .before .before .before .before .wide-timer .ensures)
 
 returns-2 : tie.Need-returns-2
-unfolding eventEffect firstApplying ticksEffect
+unfolding awake eventEffect firstApplying ticksEffect
 returns-2 c = simp (c .unmoved .ensures, sym (c .before .before .awake .ensures) ∙ c .before .if1 .left, c .before .before .before .wide-timer .ensures)
 
 pub ticks-spec : {M : Type 1} → statement M

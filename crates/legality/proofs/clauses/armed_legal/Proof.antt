@@ -1,3 +1,4 @@
+use Rattle.machine.specs.Lines.{awake}
 use Rattle.model.specs.Legal.{armedLegal}
 use borrow.Author.Needs.{needs}
 use Rattle.legality.proofs.clauses.armed_legal.Statement.{statement}
@@ -10,7 +11,7 @@ has-pm1b-cnt-requires : tie.Need-has-pm1b-cnt-requires
 has-pm1b-cnt-requires c κs = search needs
 
 returns : tie.Need-returns
-unfolding armedLegal
+unfolding awake armedLegal
 returns c = simp (c .before .has-pm1b-cnt .ensures, c .before .before .awake .ensures)
 
 pub armed-legal-spec : {M : Type 1} → statement M

@@ -20,6 +20,9 @@ within m state false = refl
 is-sleeping-requires : tie.Need-is-sleeping-requires
 is-sleeping-requires c κs = search needs
 
+scalars-requires : tie.Need-scalars-requires
+scalars-requires c κs = search needs
+
 pending-requires : tie.Need-pending-requires
 pending-requires c κs = search needs
 
@@ -33,16 +36,17 @@ enter-requires : tie.Need-enter-requires
 enter-requires c κs = search needs
 
 returns : tie.Need-returns
-unfolding completed
+unfolding completed pending
 returns c =
-    let at : _ = c .before .before .before .before .before .before .args in
-    simp (c .enter .ensures, c .before .pick8 .ensures, c .before .before .pick16 .ensures, c .before .before .before .before .pending .ensures, c .before .before .before .before .before .is-sleeping .ensures) (within (at .self) (at .state) (isSleeping (at .state) && pending (at .self) (at .state)))
+    let at : _ = c .before .before .before .before .before .before .before .before .args in
+    simp (c .enter .ensures, c .before .pick8 .ensures, c .before .before .pick16 .ensures, c .before .before .before .before .pending .ensures, c .before .before .before .before .before .scalars .ensures, c .before .before .before .before .before .before .is-sleeping .ensures) (within (at .self) (at .state) (isSleeping (at .state) && pending (at .self) (at .state)))
 
 pub complete-spec : {M : Type 1} → statement M
 complete-spec =
     tie.close
     (tie.spec
     is-sleeping-requires
+    scalars-requires
     pending-requires
     pick16-requires
     pick8-requires

@@ -1,10 +1,8 @@
 use mathlib.Core.Path.{refl}
-use Rattle.machine.specs.Lines.{awake}
 use Rattle.machine.proofs.lines.awake.Statement.{statement}
 use Rattle.machine.proofs.lines.awake.Tie as tie
 
 returns : tie.Need-returns
-unfolding awake
 returns c = refl
 
 pub awake-spec : {M : Type 1} → statement M

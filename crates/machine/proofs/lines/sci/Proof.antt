@@ -1,4 +1,4 @@
-use Rattle.machine.specs.Lines.{sciOf}
+use Rattle.machine.specs.Lines.{awake, sciOf}
 use borrow.Author.Needs.{needs}
 use Rattle.machine.proofs.lines.sci.Statement.{statement}
 use Rattle.machine.proofs.lines.sci.Tie as tie
@@ -10,7 +10,7 @@ event-output-requires : tie.Need-event-output-requires
 event-output-requires c κs = search needs
 
 returns : tie.Need-returns
-unfolding sciOf
+unfolding awake sciOf
 returns c = simp (c .before .event-output .ensures, c .before .before .awake .ensures)
 
 pub sci-spec : {M : Type 1} → statement M

@@ -1,4 +1,4 @@
-use Rattle.machine.specs.Lines.{smiOf}
+use Rattle.machine.specs.Lines.{awake, smiOf}
 use borrow.Author.Needs.{needs}
 use Rattle.machine.proofs.lines.smi.Statement.{statement}
 use Rattle.machine.proofs.lines.smi.Tie as tie
@@ -10,7 +10,7 @@ event-output-requires : tie.Need-event-output-requires
 event-output-requires c κs = search needs
 
 returns : tie.Need-returns
-unfolding smiOf
+unfolding awake smiOf
 returns c = simp (c .before .before .event-output .ensures, c .before .before .before .before .awake .ensures)
 
 pub smi-spec : {M : Type 1} → statement M

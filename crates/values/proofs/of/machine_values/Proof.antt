@@ -26,11 +26,17 @@ enable-register-requires-2 c κs = search needs
 wide16-requires-4 : tie.Need-wide16-requires-4
 wide16-requires-4 c κs = search needs
 
+scalars-requires : tie.Need-scalars-requires
+scalars-requires c κs = search needs
+
 control-register-requires : tie.Need-control-register-requires
 control-register-requires c κs = search needs
 
 wide32-requires : tie.Need-wide32-requires
 wide32-requires c κs = search needs
+
+scalars-requires-2 : tie.Need-scalars-requires-2
+scalars-requires-2 c κs = search needs
 
 control-register-requires-2 : tie.Need-control-register-requires-2
 control-register-requires-2 c κs = search needs
@@ -63,7 +69,7 @@ wide8-requires : tie.Need-wide8-requires
 wide8-requires c κs = search needs
 
 returns : tie.Need-returns
-returns c = simp (c .wide8 .ensures, c .before .flag-value3 .ensures, c .before .before .flag-value2 .ensures, c .before .before .before .command-value .ensures, c .before .before .before .before .flag-value .ensures, c .before .before .before .before .before .wide324 .ensures, c .before .before .before .before .before .before .wide323 .ensures, c .before .before .before .before .before .before .before .arb-dis-value .ensures, c .before .before .before .before .before .before .before .before .wide322 .ensures, c .before .before .before .before .before .before .before .before .before .control-register2 .ensures, c .before .before .before .before .before .before .before .before .before .before .wide32 .ensures, c .before .before .before .before .before .before .before .before .before .before .before .control-register .ensures, c .before .before .before .before .before .before .before .before .before .before .before .before .wide164 .ensures, c .before .before .before .before .before .before .before .before .before .before .before .before .before .enable-register2 .ensures, c .before .before .before .before .before .before .before .before .before .before .before .before .before .before .wide163 .ensures, c .before .before .before .before .before .before .before .before .before .before .before .before .before .before .before .enable-register .ensures, c .before .before .before .before .before .before .before .before .before .before .before .before .before .before .before .before .wide162 .ensures, c .before .before .before .before .before .before .before .before .before .before .before .before .before .before .before .before .before .status-register2 .ensures, c .before .before .before .before .before .before .before .before .before .before .before .before .before .before .before .before .before .before .wide16 .ensures, c .before .before .before .before .before .before .before .before .before .before .before .before .before .before .before .before .before .before .before .status-register .ensures)
+returns c = simp (c .wide8 .ensures, c .before .flag-value3 .ensures, c .before .before .flag-value2 .ensures, c .before .before .before .command-value .ensures, c .before .before .before .before .flag-value .ensures, c .before .before .before .before .before .wide324 .ensures, c .before .before .before .before .before .before .wide323 .ensures, c .before .before .before .before .before .before .before .arb-dis-value .ensures, c .before .before .before .before .before .before .before .before .wide322 .ensures, c .before .before .before .before .before .before .before .before .before .control-register2 .ensures, c .before .before .before .before .before .before .before .before .before .before .scalars2 .ensures, c .before .before .before .before .before .before .before .before .before .before .before .wide32 .ensures, c .before .before .before .before .before .before .before .before .before .before .before .before .control-register .ensures, c .before .before .before .before .before .before .before .before .before .before .before .before .before .scalars .ensures, c .before .before .before .before .before .before .before .before .before .before .before .before .before .before .wide164 .ensures, c .before .before .before .before .before .before .before .before .before .before .before .before .before .before .before .enable-register2 .ensures, c .before .before .before .before .before .before .before .before .before .before .before .before .before .before .before .before .wide163 .ensures, c .before .before .before .before .before .before .before .before .before .before .before .before .before .before .before .before .before .enable-register .ensures, c .before .before .before .before .before .before .before .before .before .before .before .before .before .before .before .before .before .before .wide162 .ensures, c .before .before .before .before .before .before .before .before .before .before .before .before .before .before .before .before .before .before .before .status-register2 .ensures, c .before .before .before .before .before .before .before .before .before .before .before .before .before .before .before .before .before .before .before .before .wide16 .ensures, c .before .before .before .before .before .before .before .before .before .before .before .before .before .before .before .before .before .before .before .before .before .status-register .ensures)
 
 pub machine-values-spec : {M : Type 1} → statement M
 machine-values-spec =
@@ -77,8 +83,10 @@ machine-values-spec =
     wide16-requires-3
     enable-register-requires-2
     wide16-requires-4
+    scalars-requires
     control-register-requires
     wide32-requires
+    scalars-requires-2
     control-register-requires-2
     wide32-requires-2
     arb-dis-value-requires
