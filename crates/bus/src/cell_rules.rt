@@ -208,7 +208,8 @@ struct Bytes {
     offset: u64,
 }
 
-// A write of an allowed width and place: 23, 25 to 27, or what the register's rule says.
+// A write of an allowed width and place: 23, 25 to 27, or what the register's rule says. Each arm takes the scalars for itself: a copy
+// that several share is moved by every write.
 pub(crate) fn write_cells(m: Machine, r: Register, width: u32, offset: u64, written: u32) -> Effect
     requires { ⌜ allowed r width offset ≡ true ⌝ }
     ensures { λ result. ⌜ result ≡ registerWrite m r width offset written ⌝ }
