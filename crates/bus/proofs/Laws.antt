@@ -16,7 +16,7 @@ use Rattle.machine.specs.Fields.{withCommand, withArbDis}
 use Rattle.machine.specs.Lines.{awake}
 use Rattle.machine.specs.Scalars.{bare, scalarsOf}
 use Rattle.machine.specs.declared.scalars.Scalars.{Scalars}
-use Rattle.model.proofs.Effects.{control-bare, event-write-bare}
+use Rattle.model.proofs.Effects.{by-scalars, control-bare, event-write-bare}
 use Rattle.model.specs.Answer.{firstApplying}
 use Rattle.model.specs.Bus.{wrongWidth, dataTooWide, leadsNowhere, allowed, isTimer, commandLost, readOf}
 use Rattle.model.specs.Control.{setsSlpEn, typAfter, completes, armedAfter, namedState, namesNone, bmRldAfter, gblRlsAfter, controlled}
@@ -230,9 +230,7 @@ module _ (m : Machine) (b : Bool) (width offset written : ℕ) (x : Effect) (byt
 
 module _ (m : Machine) (s : Scalars) (b : Bool) (width offset written : ℕ) (e : s ≡ scalarsOf m) where
   pub machine-control : (x : Effect) → x ≡ controlWrite (bare (m .settings) s) b width offset written → x ≡ controlWrite m b width offset written
-  machine-control x d =
-      d ∙ ap (λ (y : Scalars). controlWrite (bare (m .settings) y) b width offset written) e ∙ control-bare m b width offset written
+  machine-control x d = by-scalars (λ n. controlWrite n b width offset written) (m .settings) m s x e d (control-bare m b width offset written)
 
   pub machine-event : (x : Scalars) → x ≡ eventWrite (bare (m .settings) s) b width offset written → x ≡ eventWrite m b width offset written
-  machine-event x d =
-      d ∙ ap (λ (y : Scalars). eventWrite (bare (m .settings) y) b width offset written) e ∙ event-write-bare m b width offset written
+  machine-event x d = by-scalars (λ n. eventWrite n b width offset written) (m .settings) m s x e d (event-write-bare m b width offset written)

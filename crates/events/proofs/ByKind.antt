@@ -13,7 +13,7 @@ use Rattle.machine.specs.Scalars.{bare, scalarsOf}
 use Rattle.machine.specs.declared.scalars.Scalars.{Scalars}
 use Rattle.model.specs.Events.{pm1}
 use Rattle.model.specs.Events as events
-use Rattle.model.proofs.Effects.{readsNoByte, event-bare, notice-bare}
+use Rattle.model.proofs.Effects.{readsNoByte, by-scalars, event-bare, notice-bare}
 use Rattle.model.specs.declared.Effect.{Effect}
 use Rattle.model.specs.declared.Event.{Event}
 use Rattle.model.specs.declared.Event.the-variants as event
@@ -26,10 +26,10 @@ use Rattle.events.specs.declared.StatusBit.{StatusBit}
 -- an effect of the machine's settings and scalars is the machine's
 pub on-machine : (m : Machine) (x : Scalars) (r : Effect) (bit : events.StatusBit) (k : of.EventKind) → readsNoByte k ≡ true → x ≡ scalarsOf m
     → r ≡ eventEffect (bare (m .settings) x) bit k → r ≡ eventEffect m bit k
-on-machine m x r bit k q p d = d ∙ ap (λ (y : Scalars). eventEffect (bare (m .settings) y) bit k) p ∙ event-bare m bit k q
+on-machine m x r bit k q p d = by-scalars (λ n. eventEffect n bit k) (m .settings) m x r p d (event-bare m bit k q)
 
 pub noticed : (m : Machine) (x : Scalars) (r : Effect) (bit : events.StatusBit) → x ≡ scalarsOf m → r ≡ eventEffect (bare noSettings x) bit of.notice → r ≡ eventEffect m bit of.notice
-noticed m x r bit p d = d ∙ ap (λ (y : Scalars). eventEffect (bare noSettings y) bit of.notice) p ∙ notice-bare m bit
+noticed m x r bit p d = by-scalars (λ n. eventEffect n bit of.notice) noSettings m x r p d (notice-bare m bit)
 
 -- of a signal: its bit's mask, and its effect
 pub signal-mask : (e : Event) (b : StatusBit) → kind.Signal b ≡ kindOf e → b .mask ≡ 2 ^ b .number

@@ -6,7 +6,9 @@ use Prim.Native.Nat.{ℕ}
 use Rattle.lists.proofs.Tests.{and-left}
 use Rattle.bits.proofs.Algebra.{or-swap}
 use Rattle.clock.specs.declared.Clock.{Clock}
+use Rattle.platform.specs.declared.settings.Settings.{Settings}
 use Rattle.machine.specs.declared.Machine.{Machine}
+use Rattle.machine.specs.declared.scalars.Scalars.{Scalars}
 use Rattle.machine.specs.declared.sleeping.NextState.the-variants as next
 use Rattle.machine.specs.Fields.{withEvent, withButton, enter}
 use Rattle.machine.specs.Gpe.{bytePut, byteStored, stores, stored}
@@ -157,6 +159,11 @@ event-refused m bit k a p q = rw (p, q) refl
 -- the machine, its general event bytes zero
 abbrev pub bareOf : Machine → Machine
 bareOf m = bare (m .settings) (scalarsOf m)
+
+-- what a rule gives of some settings and of the machine's scalars is what it gives of the machine, where it looks at nothing else
+pub by-scalars : {A : Type 0} (rule : Machine → A) (s : Settings) (m : Machine) (x : Scalars) (r : A) → x ≡ scalarsOf m → r ≡ rule (bare s x)
+    → rule (bare s (scalarsOf m)) ≡ rule m → r ≡ rule m
+by-scalars rule s m x r e d l = d ∙ ap (λ (y : Scalars). rule (bare s y)) e ∙ l
 
 pub control-bare : (m : Machine) (b : Bool) (width offset written : ℕ) → controlWrite (bareOf m) b width offset written ≡ controlWrite m b width offset written
 unfolding controlWrite completing completes typAfter armedAfter bmRldAfter gblRlsAfter

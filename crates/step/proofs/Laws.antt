@@ -4,7 +4,7 @@ use Rattle.machine.specs.declared.Machine.{Machine}
 use Rattle.machine.specs.PowerOn.{noSettings}
 use Rattle.machine.specs.Scalars.{bare, scalarsOf}
 use Rattle.machine.specs.declared.scalars.Scalars.{Scalars}
-use Rattle.model.proofs.Effects.{take-bare, drop-bare}
+use Rattle.model.proofs.Effects.{by-scalars, take-bare, drop-bare}
 use Rattle.model.specs.Effect.{effectOf}
 use Rattle.model.specs.declared.Effect.{Effect}
 use Rattle.model.specs.declared.Step.{Step}
@@ -26,7 +26,7 @@ effect-by-kind m s k given e d = d ∙ ap (λ x. effectOf m (ofKind x)) e ∙ ap
 
 -- what the machine's settings and scalars give is the machine's
 pub machine-take : (m : Machine) (x : Scalars) (given : Effect) → x ≡ scalarsOf m → given ≡ effectOf (bare (m .settings) x) step.Take → given ≡ effectOf m step.Take
-machine-take m x given e d = d ∙ ap (λ (y : Scalars). effectOf (bare (m .settings) y) step.Take) e ∙ take-bare m
+machine-take m x given e d = by-scalars (λ n. effectOf n step.Take) (m .settings) m x given e d (take-bare m)
 
 pub machine-drop : (m : Machine) (x : Scalars) (given : Effect) → x ≡ scalarsOf m → given ≡ effectOf (bare noSettings x) step.Drop → given ≡ effectOf m step.Drop
-machine-drop m x given e d = d ∙ ap (λ (y : Scalars). effectOf (bare noSettings y) step.Drop) e ∙ drop-bare m
+machine-drop m x given e d = by-scalars (λ n. effectOf n step.Drop) noSettings m x given e d (drop-bare m)
