@@ -4,7 +4,9 @@
 use model::saved::{control, Records, MALFORMED, NO_EDITION};
 use model::{Gpe, Machine, A, B, GPE_BYTES};
 
-const FIRST: &[u8] = b"edition\t1";
+const FIRST: &[u8] = b"edition\t2";
+/// Edition 1 is still read; it has no WAKE_PIN, the last of `RECORDS`.
+const OLDER: &[u8] = b"edition\t1";
 
 #[derive(Clone, Copy)]
 enum Form {
@@ -36,7 +38,7 @@ const fn flag(name: &'static str) -> Record {
     }
 }
 
-const COUNT: usize = 42;
+const COUNT: usize = 43;
 
 const RECORDS: [Record; COUNT] = [
     hex("SMI_CMD\t", 16),
@@ -85,6 +87,7 @@ const RECORDS: [Record; COUNT] = [
     flag("RELEASE\t"),
     flag("ARMED\t"),
     hex("STATE\t", 1),
+    flag("WAKE_PIN\t"),
 ];
 
 const GPE_STS: [&str; 2] = ["GPE0_STS\t", "GPE1_STS\t"];
@@ -154,6 +157,7 @@ fn values(machine: &Machine) -> [u64; COUNT] {
         machine.release.into(),
         machine.armed.into(),
         machine.state.into(),
+        machine.pin.into(),
     ]
 }
 
@@ -263,13 +267,15 @@ impl<'a> Reader<'a> {
 #[inline(never)]
 pub fn read(text: &[u8]) -> Result<Machine, u8> {
     let end = text.iter().position(|byte| *byte == b'\n').unwrap_or(text.len());
-    if &text[..end] != FIRST {
-        return Err(NO_EDITION);
-    }
+    let count = match &text[..end] {
+        FIRST => COUNT,
+        OLDER => COUNT - 1,
+        _ => return Err(NO_EDITION),
+    };
     let mut left = Reader(&text[end..]);
     left.text(b"\n")?;
     let mut values = [0; COUNT];
-    for (record, value) in RECORDS.iter().zip(&mut values) {
+    for (record, value) in RECORDS[..count].iter().zip(&mut values) {
         *value = left.value(record)?;
     }
     let mut gpe = [Gpe::default(); 2];
@@ -319,6 +325,7 @@ fn records(v: &[u64; COUNT], gpe: [Gpe; 2]) -> Records {
         release: v[39] == 1,
         armed: v[40] == 1,
         state: v[41] as u8,
+        pin: v[42] == 1,
         gpe,
     }
 }

@@ -100,7 +100,7 @@ fn with_event(x: Scalars, sts: u16, en: u16) -> Scalars
 }
 
 // A command write latches the byte.
-fn latch(x: Scalars, command: u8) -> Scalars
+fn latch(x: Scalars, command: u32) -> Scalars
     ensures { λ r. ⌜ r ≡ scalarsOf (withCommand (bare noSettings x) true command) ⌝ }
 {
     let mut next = x.copied();
@@ -183,11 +183,11 @@ fn event_written(s: Settings, x: Scalars, b: bool, width: u32, offset: u64, writ
     let en = x.pm1_en;
     match offset {
         0 => {
-            let clearable = registers::clearable(s, b);
+            let clearable = registers::clearable(s, x.wake_pin, b);
             with_event(x, registers::status_low(sts, clearable, width, written), en)
         }
         1 => {
-            let clearable = registers::clearable(s, b);
+            let clearable = registers::clearable(s, x.wake_pin, b);
             with_event(x, registers::status_high(sts, clearable, written), en)
         }
         2 => {
@@ -220,11 +220,7 @@ pub(crate) fn write_cells(m: Machine, r: Register, width: u32, offset: u64, writ
             if m.command_waits {
                 return model::unmoved(m.scalars(), Answer::CommandWaits);
             }
-            model::done(
-                0,
-                latch(m.scalars(), registers::low_byte(written)),
-                NextState::Same,
-            )
+            model::done(0, latch(m.scalars(), written % 256), NextState::Same)
         }
         Register::Pm1Evt(b) => model::done(
             0,

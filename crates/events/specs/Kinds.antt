@@ -1,4 +1,5 @@
 -- Events by their kind, with the status bit of each: as `eventKind` and `eventBit` of `model` have them.
+use mathlib.Core.Bool.{true, false}
 use Prim.Native.Nat.{ℕ, _^_}
 use Rattle.acpi.specs.Bits.{«BM_STS», «GBL_STS», «SLPBTN_STS», «RTC_STS»}
 use Rattle.model.specs.declared.Event.{Event}
@@ -15,7 +16,8 @@ kindOf event.Press = kind.Press
 kindOf event.Release = kind.Release
 kindOf event.SleepPress = kind.Signal (bitOf «SLPBTN_STS»)
 kindOf event.Alarm = kind.Signal (bitOf «RTC_STS»)
-kindOf event.PcieWake = kind.PcieWake
+kindOf event.PinActive = kind.Pin true
+kindOf event.PinInactive = kind.Pin false
 kindOf event.BusMaster = kind.Notice (bitOf «BM_STS»)
 kindOf event.Unlock = kind.Notice (bitOf «GBL_STS»)
 kindOf (event.General k) = kind.General k

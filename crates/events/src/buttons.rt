@@ -1,6 +1,7 @@
-// The power and sleep buttons, the alarm, and PCIe wake.
+// The power and sleep buttons, the alarm, and the wake pin.
 use acpi::PCIEXP_WAKE_STS;
 use acpi::PWRBTN_STS;
+use bits::pick16;
 use machine::NextState;
 use machine::PCIEXP_WAKE;
 use machine::PWRBTN;
@@ -22,7 +23,7 @@ ghost use Rattle.machine.specs.Fields.{withButton};
 ghost use Rattle.machine.specs.PowerOn.{noSettings};
 ghost use Rattle.machine.specs.Scalars.{bare, scalarsOf};
 ghost use Prim.Native.Nat.{_^_};
-ghost use Rattle.model.specs.Effect.{wakesIf, pressWakes, signalEffect, pcieWakeEffect, eventEffect};
+ghost use Rattle.model.specs.Effect.{wakesIf, pressWakes, signalEffect, pinned, pinNext, eventEffect};
 ghost use Rattle.model.specs.EventKinds as kind;
 ghost use Rattle.model.specs.Events.{pm1, eventBit, fits, raised, isS5, releaseOf, signalWakes};
 ghost use Rattle.model.specs.declared.Event.the-variants as event;
@@ -86,7 +87,7 @@ pub(crate) fn press(s: Settings, x: Scalars) -> Effect
 {
     if fits(s, PWRBTN) {
         if x.button {
-            model::unmoved(x, Answer::ButtonAlready)
+            model::unmoved(x, Answer::AlreadySo)
         } else {
             model::done(0, button_down(x), press_wakes(x.state))
         }
@@ -112,7 +113,7 @@ pub(crate) fn release(s: Settings, x: Scalars) -> Effect
         if x.button {
             model::done(0, button_up(x), NextState::Same)
         } else {
-            model::unmoved(x, Answer::ButtonAlready)
+            model::unmoved(x, Answer::AlreadySo)
         }
     } else {
         model::unmoved(x, Answer::NotFitted)
@@ -154,31 +155,44 @@ pub(crate) fn signal(s: Settings, x: Scalars, i: u8, bit: u16) -> Effect
     }
 }
 
-// In S1 to S4, and PCIEXP_WAKE_DIS, its partner in the enables, is clear.
-fn pcie_wakes(state: u8, pm1_en: u16) -> bool
-    ensures { λ r. ⌜ r ≡ (isSleeping state && not (hasBit «pm1_en» pciexpWakeBit)) ⌝ }
+// The pin becomes active in S1 to S4, and PCIEXP_WAKE_DIS, its partner in the enables, is clear.
+fn pin_wakes(active: bool, state: u8, pm1_en: u16) -> bool
+    ensures { λ r. ⌜ r ≡ (active && (isSleeping state && not (hasBit «pm1_en» pciexpWakeBit))) ⌝ }
 {
-    is_sleeping(state) & !has_bit(pm1_en, PCIEXP_WAKE)
+    active & (is_sleeping(state) & !has_bit(pm1_en, PCIEXP_WAKE))
 }
 
-// Its bit is set and the machine wakes, or nothing happens.
-fn wake_by_pcie(x: Scalars) -> Effect
-    ensures { λ r. ⌜ r ≡ pcieWakeEffect (bare noSettings x) ⌝ }
+// The pin at its level, and its bit where it wakes.
+fn pinned(x: Scalars, active: bool, wakes: bool) -> Scalars
+    ensures { λ r. ⌜ r ≡ scalarsOf (pinned (bare noSettings x) active wakes) ⌝ }
 {
-    if pcie_wakes(x.state, x.pm1_en) {
-        let wakes = NextState::Changed(StateChange::Wake(WakeSource::Pm1(PCIEXP_WAKE_STS)));
-        model::done(0, raise(x, PCIEXP_WAKE), wakes)
+    let mut next = x.copied();
+    next.wake_pin = active;
+    next.pm1_sts = x.pm1_sts | pick16(wakes, PCIEXP_WAKE, 0);
+    next
+}
+
+fn pin_next(wakes: bool) -> NextState
+    ensures { λ r. ⌜ r ≡ pinNext wakes ⌝ }
+{
+    if wakes {
+        NextState::Changed(StateChange::Wake(WakeSource::Pm1(PCIEXP_WAKE_STS)))
     } else {
-        model::unmoved(x, Answer::Done(0))
+        NextState::Same
     }
 }
 
-// 28, or what it does.
-pub(crate) fn pcie_wake(s: Settings, x: Scalars) -> Effect
-    ensures { λ r. ⌜ r ≡ eventEffect (bare s x) (eventBit event.PcieWake) kind.pcieWake ⌝ }
+// 28 and 30; else the pin takes the level, and may wake.
+pub(crate) fn pin(s: Settings, x: Scalars, active: bool) -> Effect
+    ensures { λ r. ⌜ r ≡ eventEffect (bare s x) (eventBit event.PinActive) (kind.pin active) ⌝ }
 {
     if fits(s, PCIEXP_WAKE) {
-        wake_by_pcie(x)
+        if x.wake_pin == active {
+            model::unmoved(x, Answer::AlreadySo)
+        } else {
+            let wakes = pin_wakes(active, x.state, x.pm1_en);
+            model::done(0, pinned(x, active, wakes), pin_next(wakes))
+        }
     } else {
         model::unmoved(x, Answer::NotFitted)
     }

@@ -1,4 +1,4 @@
-// Buttons, alarm, PCIe wake, bus master, global lock, general events and ticks.
+// Buttons, alarm, wake pin, bus master, global lock, general events and ticks.
 mod buttons;
 mod general;
 mod timer;
@@ -8,7 +8,7 @@ use acpi::GBL_STS;
 use acpi::RTC_STS;
 use acpi::SLPBTN_STS;
 use buttons::notice;
-use buttons::pcie_wake;
+use buttons::pin;
 use buttons::press;
 use buttons::release;
 use buttons::signal;
@@ -37,7 +37,7 @@ enum EventKind {
     Press,
     Release,
     Signal(StatusBit),
-    PcieWake,
+    Pin(bool),
     Notice(StatusBit),
     General(u32),
     Ticks(u32),
@@ -57,7 +57,8 @@ fn kind_of(e: Event) -> EventKind
         Event::Release => EventKind::Release,
         Event::SleepPress => EventKind::Signal(status_bit(SLPBTN_STS, SLPBTN)),
         Event::Alarm => EventKind::Signal(status_bit(RTC_STS, RTC)),
-        Event::PcieWake => EventKind::PcieWake,
+        Event::PinActive => EventKind::Pin(true),
+        Event::PinInactive => EventKind::Pin(false),
         Event::BusMaster => EventKind::Notice(status_bit(BM_STS, BM)),
         Event::Unlock => EventKind::Notice(status_bit(GBL_STS, GBL)),
         Event::General(k) => EventKind::General(k),
@@ -74,7 +75,7 @@ pub fn event(m: Machine, e: Event) -> Effect
         EventKind::Press => press(s, m.scalars()),
         EventKind::Release => release(s, m.scalars()),
         EventKind::Signal(bit) => signal(s, m.scalars(), bit.number, bit.mask),
-        EventKind::PcieWake => pcie_wake(s, m.scalars()),
+        EventKind::Pin(active) => pin(s, m.scalars(), active),
         EventKind::Notice(bit) => notice(m.scalars(), bit.number, bit.mask),
         EventKind::General(k) => general(m, k),
         EventKind::Ticks(n) => ticks(s, m.scalars(), n),

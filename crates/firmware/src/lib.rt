@@ -12,16 +12,22 @@ ghost use Rattle.model.specs.Effect.{effectOf};
 ghost use Rattle.model.specs.Firmware.{isAcpiEnable, isAcpiDisable, sciEnAfter, enablesAfter, takeOf, dropOf};
 ghost use Rattle.model.specs.declared.Step.the-variants as step;
 
+fn wide(x: u8) -> u32
+    ensures { λ r. ⌜ r ≡ x ⌝ }
+{
+    x as u32
+}
+
 fn is_acpi_enable(s: Settings, x: Scalars) -> bool
     ensures { λ r. ⌜ r ≡ isAcpiEnable (bare s x) ⌝ }
 {
-    x.command == s.acpi_enable
+    x.command == wide(s.acpi_enable)
 }
 
 fn is_acpi_disable(s: Settings, x: Scalars) -> bool
     ensures { λ r. ⌜ r ≡ isAcpiDisable (bare s x) ⌝ }
 {
-    x.command == s.acpi_disable
+    x.command == wide(s.acpi_disable)
 }
 
 // ACPI_ENABLE sets SCI_EN; ACPI_DISABLE clears it; others only leave.
@@ -63,19 +69,13 @@ fn take_command(s: Settings, x: Scalars) -> Scalars
     next
 }
 
-fn wide(x: u8) -> u32
-    ensures { λ r. ⌜ r ≡ x ⌝ }
-{
-    x as u32
-}
-
 // The firmware takes the waiting command: 20 and 31; else the command.
 pub fn take(s: Settings, x: Scalars) -> Effect
     ensures { λ r. ⌜ r ≡ effectOf (bare s x) step.Take ⌝ }
 {
     if awake(x.state) {
         if x.command_waits {
-            model::done(wide(x.command), take_command(s, x), NextState::Same)
+            model::done(x.command, take_command(s, x), NextState::Same)
         } else {
             model::unmoved(x, Answer::NoCommand)
         }

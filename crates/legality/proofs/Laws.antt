@@ -10,7 +10,7 @@ use Rattle.platform.specs.Rules.{settingsRules}
 use Rattle.platform.specs.declared.rules.SetUpAnswer.the-variants as answer
 use Rattle.platform.specs.declared.rules.SetUpRefusal.{SetUpRefusal}
 use Rattle.machine.specs.declared.Machine.{Machine}
-use Rattle.model.specs.Legal.{statusLegal, enablesLegal, gpeLegal, arbDisLegal, stateLegal, counterLegal, holdLegal, buttonLegal, commandLegal, armedLegal, slpTypBLegal, commandByteLegal, slpTypsLegal, gpePendingLegal, listed}
+use Rattle.model.specs.Legal.{statusLegal, enablesLegal, gpeLegal, arbDisLegal, stateLegal, counterLegal, holdLegal, buttonLegal, wakePinLegal, commandLegal, armedLegal, slpTypBLegal, commandByteLegal, slpTypsLegal, gpePendingLegal, listed}
 use Rattle.legality.specs.Legality.{oneValue, afterSettings, legalityOf, isLegal}
 use Rattle.legality.specs.declared.Clause.{Clause}
 use Rattle.legality.specs.declared.Clause.the-variants as clause
@@ -37,20 +37,20 @@ legal-settings (r ∷ rs) y = go (r .refused) (legal-settings rs y)
     go false h = h
 
 -- the tests joined as the list has them, and as `legalityOf` looks at them
-same-tests : (rules evt-b cnt-b status enables gpe0 gpe1 arb-dis state counter hold button command armed slp-typ-b command-byte slp-typs pending : Bool)
-    → (not (rules || evt-b || cnt-b) && status && enables && gpe0 && gpe1 && arb-dis && state && counter && hold && button && command && armed && slp-typ-b && command-byte && slp-typs && pending)
-    ≡ (not rules && (status && (enables && (gpe0 && gpe1 && (arb-dis && (state && (counter && (hold && (button && (command && (armed && (slp-typ-b && (not evt-b && not cnt-b && command-byte && slp-typs && (pending && true))))))))))))))
-same-tests true evt-b cnt-b status enables gpe0 gpe1 arb-dis state counter hold button command armed slp-typ-b command-byte slp-typs pending = refl
-same-tests false true cnt-b status enables gpe0 gpe1 arb-dis state counter hold button command armed slp-typ-b command-byte slp-typs pending = simp and-false
-same-tests false false true status enables gpe0 gpe1 arb-dis state counter hold button command armed slp-typ-b command-byte slp-typs pending = simp and-false
-same-tests false false false status enables gpe0 gpe1 arb-dis state counter hold button command armed slp-typ-b command-byte slp-typs pending = simp (and-assoc, and-true) (rw (and-assoc command-byte slp-typs pending))
+same-tests : (rules evt-b cnt-b status enables gpe0 gpe1 arb-dis state counter hold button pin command armed slp-typ-b command-byte slp-typs pending : Bool)
+    → (not (rules || evt-b || cnt-b) && status && enables && gpe0 && gpe1 && arb-dis && state && counter && hold && button && pin && command && armed && slp-typ-b && command-byte && slp-typs && pending)
+    ≡ (not rules && (status && (enables && (gpe0 && gpe1 && (arb-dis && (state && (counter && (hold && (button && (pin && (command && (armed && (slp-typ-b && (not evt-b && not cnt-b && command-byte && slp-typs && (pending && true)))))))))))))))
+same-tests true evt-b cnt-b status enables gpe0 gpe1 arb-dis state counter hold button pin command armed slp-typ-b command-byte slp-typs pending = refl
+same-tests false true cnt-b status enables gpe0 gpe1 arb-dis state counter hold button pin command armed slp-typ-b command-byte slp-typs pending = simp and-false
+same-tests false false true status enables gpe0 gpe1 arb-dis state counter hold button pin command armed slp-typ-b command-byte slp-typs pending = simp and-false
+same-tests false false false status enables gpe0 gpe1 arb-dis state counter hold button pin command armed slp-typ-b command-byte slp-typs pending = simp (and-assoc, and-true) (rw (and-assoc command-byte slp-typs pending))
 
 pub listed-exactly : (m : Machine) → listed m ≡ isLegal (legalityOf m)
 unfolding listed legalSettings oneValue afterSettings legalityOf
 listed-exactly m =
     same-tests (any (λ r. r .refused) (settingsRules (m .settings))) (strayLength (m .settings .«pm1b_evt»)) (strayLength (m .settings .«pm1b_cnt»))
     (statusLegal m) (enablesLegal m) (gpeLegal m false) (gpeLegal m true) (arbDisLegal m) (stateLegal m) (counterLegal m) (holdLegal m)
-    (buttonLegal m) (commandLegal m) (armedLegal m) (slpTypBLegal m) (commandByteLegal m) (slpTypsLegal m) (gpePendingLegal m) ∙
+    (buttonLegal m) (wakePinLegal m) (commandLegal m) (armedLegal m) (slpTypBLegal m) (commandByteLegal m) (slpTypsLegal m) (gpePendingLegal m) ∙
     sym (legal-settings (settingsRules (m .settings)) (afterSettings m) ∙
     rw (
       legal-if (statusLegal m),
@@ -61,6 +61,7 @@ listed-exactly m =
       legal-if (counterLegal m),
       legal-if (holdLegal m),
       legal-if (buttonLegal m),
+      legal-if (wakePinLegal m),
       legal-if (commandLegal m),
       legal-if (armedLegal m),
       legal-if (slpTypBLegal m),

@@ -1,10 +1,10 @@
--- The first clause of W2's list, and after it W7's, that a machine breaks. That a machine breaks none exactly if it passes the list is `listed-exactly` of `proofs/Laws.antt`.
+-- The first clause of W2's list, with W3's in it and after it W7's, that a machine breaks. That a machine breaks none exactly if it passes the list is `listed-exactly` of `proofs/Laws.antt`.
 use mathlib.Core.Bool.{Bool, true, false, not, cond, _&&_}
 use Rattle.platform.specs.Answer.{ifDone, firstFailing}
 use Rattle.platform.specs.Legal.{strayLength}
 use Rattle.platform.specs.Rules.{settingsRules}
 use Rattle.machine.specs.declared.Machine.{Machine}
-use Rattle.model.specs.Legal.{statusLegal, enablesLegal, gpeLegal, arbDisLegal, stateLegal, counterLegal, holdLegal, buttonLegal, commandLegal, armedLegal, slpTypBLegal, commandByteLegal, slpTypsLegal, gpePendingLegal}
+use Rattle.model.specs.Legal.{statusLegal, enablesLegal, gpeLegal, arbDisLegal, stateLegal, counterLegal, holdLegal, buttonLegal, wakePinLegal, commandLegal, armedLegal, slpTypBLegal, commandByteLegal, slpTypsLegal, gpePendingLegal}
 use Rattle.legality.specs.declared.Clause.{Clause}
 use Rattle.legality.specs.declared.Clause.the-variants as clause
 use Rattle.legality.specs.declared.Legality.{Legality}
@@ -25,12 +25,13 @@ afterSettings m =
     (cond (not (counterLegal m)) (legality.Breaks clause.Counter)
     (cond (not (holdLegal m)) (legality.Breaks clause.Hold)
     (cond (not (buttonLegal m)) (legality.Breaks clause.Button)
+    (cond (not (wakePinLegal m)) (legality.Breaks clause.WakePin)
     (cond (not (commandLegal m)) (legality.Breaks clause.Command)
     (cond (not (armedLegal m)) (legality.Breaks clause.Armed)
     (cond (not (slpTypBLegal m)) (legality.Breaks clause.SlpTypB)
     (cond (not (oneValue m)) (legality.Breaks clause.OneValue)
     (cond (not (gpePendingLegal m)) (legality.Breaks clause.GpePending)
-    legality.Legal))))))))))))
+    legality.Legal)))))))))))))
 
 -- "settings pass rules 5 to 12": the first that refuses; then the other clauses
 unfoldable pub legalityOf : Machine → Legality

@@ -4,6 +4,7 @@ use crate::Legality;
 use clock::HOLD_LIMIT;
 use machine::GPE_BYTES;
 use machine::Machine;
+use machine::PCIEXP_WAKE;
 use machine::PWRBTN;
 use machine::awake;
 use machine::has_bit;
@@ -20,7 +21,7 @@ ghost use Rattle.lists.specs.Any.{any};
 ghost use Rattle.clock.specs.Clock.{counterBits};
 ghost use Rattle.sleep.specs.Pairs.{absent};
 ghost use Rattle.platform.specs.Legal.{strayLength};
-ghost use Rattle.model.specs.Legal.{onlyIf, absentPair, statusLegal, enablesLegal, bytesLegal, gpeLegal, arbDisLegal, stateLegal, counterLegal, holdLegal, buttonLegal, commandLegal, armedLegal, slpTypBLegal, slpTypsLegal, gpePendingLegal};
+ghost use Rattle.model.specs.Legal.{onlyIf, absentPair, statusLegal, enablesLegal, bytesLegal, gpeLegal, arbDisLegal, stateLegal, counterLegal, holdLegal, buttonLegal, wakePinLegal, commandLegal, armedLegal, slpTypBLegal, slpTypsLegal, gpePendingLegal};
 ghost use Rattle.legality.specs.declared.Legality.the-variants as legality;
 ghost use Rattle.legality.specs.Legality.{oneValue, afterSettings, legalityOf};
 
@@ -148,6 +149,13 @@ fn button_legal(m: Machine) -> bool
     !m.button | has_bit(platform::status_cells(s), PWRBTN)
 }
 
+fn wake_pin_legal(m: Machine) -> bool
+    ensures { λ r. ⌜ r ≡ wakePinLegal m ⌝ }
+{
+    let s = m.settings;
+    !m.wake_pin | has_bit(platform::status_cells(s), PCIEXP_WAKE)
+}
+
 fn command_legal(m: Machine) -> bool
     ensures { λ r. ⌜ r ≡ commandLegal m ⌝ }
 {
@@ -177,10 +185,10 @@ fn stray_length(b: Block) -> bool
     !is_present(b) & (b.length != 0)
 }
 
-fn command_byte_legal(waits: bool, command: u8) -> bool
+fn command_byte_legal(waits: bool, command: u32) -> bool
     ensures { λ r. ⌜ r ≡ (ltb command 256 && onlyIf (not waits) (eqb command 0)) ⌝ }
 {
-    waits | (command == 0)
+    (command < 256) & (waits | (command == 0))
 }
 
 fn slp_typs_legal(m: Machine) -> bool
@@ -224,6 +232,7 @@ fn after_settings(m: Machine) -> Legality
     let all = unless(slp_typ_b_legal(m), Clause::SlpTypB, all);
     let all = unless(armed_legal(m), Clause::Armed, all);
     let all = unless(command_legal(m), Clause::Command, all);
+    let all = unless(wake_pin_legal(m), Clause::WakePin, all);
     let all = unless(button_legal(m), Clause::Button, all);
     let all = unless(hold_legal(m), Clause::Hold, all);
     let all = unless(counter_legal(m), Clause::Counter, all);

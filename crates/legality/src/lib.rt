@@ -1,4 +1,4 @@
-// Whether a machine passes the list of request W2, document 02, and request W7's clause, and if not the first clause that it breaks.
+// Whether a machine passes the list of request W2, document 02, with the clauses of requests W3 and W7, and if not the first clause that it breaks.
 mod clauses;
 
 pub use clauses::judge;
@@ -10,7 +10,7 @@ pub enum Legality {
     Breaks(Clause),
 }
 
-// The clauses in the list's order, which the comments quote; last request W7's.
+// The clauses in the list's order, which the comments quote; request W3's stands among them, and request W7's last.
 pub enum Clause {
     // "settings pass rules 5 to 12": the first that refuses
     Settings(SetUpRefusal),
@@ -28,6 +28,8 @@ pub enum Clause {
     Hold,
     // "button down only where fitted"
     Button,
+    // request W3: the wake pin "active only where fitted"
+    WakePin,
     // "no command, and SCI_EN set, without SMI_CMD"
     Command,
     // "armed only in S0 with B control"

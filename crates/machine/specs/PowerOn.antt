@@ -21,7 +21,7 @@ noBytes = replicate gpeBytes 0
 -- every cell, count and flag zero, with these settings, and SCI_EN as given
 abbrev pub zeroed : Settings → Bool → Machine
 zeroed s sci-en =
-    made s (0, 0) (noBytes, noBytes, noBytes, noBytes, false) (0, 0, false) (false, 0) (sci-en, false, false, 0, 0, false) (false, 0)
+    made s (0, 0) (noBytes, noBytes, noBytes, noBytes, false) (0, 0, false) (false, 0) (sci-en, false, false, 0, 0, false) (false, 0) false
 
 abbrev pub powerOn : Settings → Machine
 powerOn s = zeroed s (eqb (s .«smi_cmd») 0)

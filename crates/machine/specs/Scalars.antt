@@ -25,6 +25,7 @@ scalarsOf m =
       «arb_dis» = m .«arb_dis»;
       command = m .command;
       «gbl_rls» = m .«gbl_rls»;
+      «wake_pin» = m .«wake_pin»;
     }
 
 -- the machine with these; settings and bytes are kept
@@ -32,7 +33,7 @@ abbrev pub withScalars : Machine → Scalars → Machine
 withScalars m x =
     made (m .settings) (x .«pm1_sts», x .«pm1_en») (m .«gpe0_sts», m .«gpe0_en», m .«gpe1_sts», m .«gpe1_en», x .«gpe_pending»)
     (x .counter, x .hold, x .button) (x .«command_waits», x .command)
-    (x .«sci_en», x .«bm_rld», x .«gbl_rls», x .«slp_typ_a», x .«slp_typ_b», x .«arb_dis») (x .armed, x .state)
+    (x .«sci_en», x .«bm_rld», x .«gbl_rls», x .«slp_typ_a», x .«slp_typ_b», x .«arb_dis») (x .armed, x .state) (x .«wake_pin»)
 
 -- a machine of these settings and scalars, its general event bytes zero: what looks at no such byte is said of it
 abbrev pub bare : Settings → Scalars → Machine

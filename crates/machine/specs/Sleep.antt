@@ -43,6 +43,7 @@ unfoldable pub completed : Machine → ℕ → Machine
 completed m state = wokenIf source.NotKnown (pending m state) (enter m state)
 
 -- "From S5 only a press wakes: all PM1 and GPE cells, BM_RLD, SLP_TYP, PM2, release flag and command zero, .. counter kept; SCI_EN as at power-on; WAK not set."
+-- Request W3: "After a wake from S5 the pin keeps its level while the bit is zero."
 abbrev pub restarted : Machine → Machine
 restarted m =
     enter

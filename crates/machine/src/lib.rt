@@ -55,9 +55,11 @@ pub struct Machine {
     pub state: u8,
     // whether a GPE status bit is set together with its enable; SCI, SMI and completing take it from here and look at no byte
     pub gpe_pending: bool,
-    // the command's byte, zero where none waits; and whether one waits for the firmware
-    pub command: u8,
+    // the command's byte, zero where none waits, in 32 bits, since with a byte there would be padding; and whether one waits for the firmware
+    pub command: u32,
     pub command_waits: bool,
+    // the wake pin is active: the level at the input of PCIEXP_WAKE_STS
+    pub wake_pin: bool,
     // PM1a_STS with PM1b_STS; a bit's home says in which block it is read and written, here and in pm1_en
     pub pm1_sts: u16,
     // TMR_VAL, and with TMR_VAL_EXT E_TMR_VAL above it
@@ -108,6 +110,7 @@ fn blank(settings: Settings) -> Machine
         arb_dis: false,
         state: 0,
         gpe_pending: false,
+        wake_pin: false,
     }
 }
 

@@ -16,8 +16,9 @@ pub struct Scalars {
     pub armed: bool,
     pub state: u8,
     pub gpe_pending: bool,
-    pub command: u8,
+    pub command: u32,
     pub command_waits: bool,
+    pub wake_pin: bool,
     pub pm1_sts: u16,
     pub counter: u32,
     pub gbl_rls: bool,
@@ -42,6 +43,7 @@ impl Scalars {
             gpe_pending: self.gpe_pending,
             command: self.command,
             command_waits: self.command_waits,
+            wake_pin: self.wake_pin,
             pm1_sts: self.pm1_sts,
             counter: self.counter,
             gbl_rls: self.gbl_rls,
@@ -67,6 +69,7 @@ impl Machine {
             gpe_pending: self.gpe_pending,
             command: self.command,
             command_waits: self.command_waits,
+            wake_pin: self.wake_pin,
             pm1_sts: self.pm1_sts,
             counter: self.counter,
             gbl_rls: self.gbl_rls,
@@ -89,6 +92,7 @@ impl Machine {
         self.gpe_pending = x.gpe_pending;
         self.command = x.command;
         self.command_waits = x.command_waits;
+        self.wake_pin = x.wake_pin;
         self.pm1_sts = x.pm1_sts;
         self.counter = x.counter;
         self.gbl_rls = x.gbl_rls;

@@ -90,7 +90,7 @@ impl Machine {
         self.enter(sts, pick8(wakes, 0, state))
     }
 
-    // A press in S5: cells, BM_RLD, SLP_TYP, PM2, release flag and command zero; SCI_EN as at power-on; the counter is kept.
+    // A press in S5: cells, BM_RLD, SLP_TYP, PM2, release flag and command zero; SCI_EN as at power-on; the counter and the wake pin are kept.
     pub fn restart(self) -> Machine
         ensures { λ r. ⌜ r ≡ restarted self ⌝ }
     {

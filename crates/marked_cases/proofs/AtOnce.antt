@@ -37,7 +37,7 @@ eventAtOnce : Machine → StatusBit → EventKind → ℕ × Machine
 eventAtOnce m bit kind.press = (0, doneBy m bit kind.press)
 eventAtOnce m bit kind.release = (0, doneBy m bit kind.release)
 eventAtOnce m bit kind.signal = (0, doneBy m bit kind.signal)
-eventAtOnce m bit kind.pcieWake = (0, doneBy m bit kind.pcieWake)
+eventAtOnce m bit (kind.pin active) = (0, doneBy m bit (kind.pin active))
 eventAtOnce m bit kind.notice = (0, doneBy m bit kind.notice)
 eventAtOnce m bit (kind.general k) = (0, doneBy m bit (kind.general k))
 eventAtOnce m bit (kind.ticks n) = ticksAtOnce n m
@@ -47,7 +47,7 @@ unfolding eventAtOnce ticksAtOnce
 event-at-once m bit kind.press = refl
 event-at-once m bit kind.release = refl
 event-at-once m bit kind.signal = refl
-event-at-once m bit kind.pcieWake = refl
+event-at-once m bit (kind.pin active) = refl
 event-at-once m bit kind.notice = refl
 event-at-once m bit (kind.general k) = refl
 event-at-once m bit (kind.ticks n) = rw (turns-at-once n m, clock-closed-form n m, ticks-closed-form n m) refl

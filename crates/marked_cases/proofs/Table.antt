@@ -11,11 +11,12 @@ use Rattle.platform.specs.Blocks.{present, holds}
 use Rattle.machine.specs.Status.{hasBit}
 use Rattle.registers.specs.Registers.{inStatus, inEnable, statusAfter, enableAfter, controlIn, coversLow, coversHigh, writtenBit}
 use Rattle.machine.specs.Lines.{awake}
-use Rattle.machine.specs.Sleep.{isSleeping}
+use Rattle.sleep.specs.Pairs.{absent, samePair, named, firstFrom}
+use Rattle.machine.specs.Sleep.{isSleeping, wakeBits, pending, completed}
 use Rattle.model.specs.Answer.{firstApplying}
 use Rattle.model.specs.Bus.{wrongWidth, dataTooWide, leadsNowhere, allowed, isTimer, commandLost, readOf, writeOf}
-use Rattle.model.specs.Control.{namesNone, setsSlpEn, typAfter, completes, bmRldAfter}
-use Rattle.model.specs.Events.{inS5, pressOf, tmrRaised, timed, tickedBy, turnsBy, eventOf}
+use Rattle.model.specs.Control.{namesNone, setsSlpEn, typAfter, completes, armedAfter, bmRldAfter, gblRlsAfter}
+use Rattle.model.specs.Events.{inS5, pressOf, pinOf, tmrRaised, timed, tickedBy, turnsBy, eventOf}
 use Rattle.model.specs.Ports.{registerAt, offsetAt}
 use Rattle.machine.specs.declared.Machine.{Machine}
 use Rattle.model.specs.Step.{ticks, answerTo, after, stepOf}
@@ -38,7 +39,7 @@ each-holds (x ∷ rs) e r (List·Memᴰ·tail at) = each-holds rs (and-right (ro
 
 -- the test over the whole list
 pub rows-pass : allHold rows ≡ true
-unfolding allHold stepsHold sameRegisters answerAtOnce afterAtOnce answerTo firstApplying awake wrongWidth dataTooWide leadsNowhere allowed isTimer commandLost namesNone readOf writeOf setsSlpEn typAfter completes bmRldAfter registerAt offsetAt firstAt holds present hasBit inStatus inEnable statusAfter enableAfter controlIn coversLow coversHigh writtenBit maskOf flagOf bitAt timed tmrRaised offWithin ranOf counterAfter turnsIn holdAfter pressOf inS5 isSleeping eventOf
+unfolding allHold stepsHold sameRegisters answerAtOnce afterAtOnce answerTo firstApplying awake wrongWidth dataTooWide leadsNowhere allowed isTimer commandLost namesNone readOf writeOf setsSlpEn typAfter completes bmRldAfter registerAt offsetAt firstAt holds present hasBit inStatus inEnable statusAfter enableAfter controlIn coversLow coversHigh writtenBit maskOf flagOf bitAt timed tmrRaised offWithin ranOf counterAfter turnsIn holdAfter pressOf pinOf inS5 isSleeping armedAfter gblRlsAfter completed pending wakeBits absent samePair named firstFrom eventOf
 rows-pass = refl
 
 -- the marked cases: what each row of the list claims of `stepOf` holds
@@ -72,4 +73,5 @@ rows-accepted =
     (more false refl (more false refl (more false refl (more false refl (more false refl
     (more false refl (more false refl
     (more true refl (more true refl
-    (more false refl (more false refl (more false refl (more false refl none)))))))))))))))))))))))
+    (more false refl (more false refl (more false refl (more false refl
+    (more false refl (more false refl (more false refl (more false refl (more false refl (more false refl none)))))))))))))))))))))))))))))

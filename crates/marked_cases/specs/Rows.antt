@@ -1,11 +1,11 @@
--- The marked cases of document 01, "Values on each side", and request W1's cases: one list of rows, and what a row claims.
+-- The marked cases of document 01, "Values on each side", and the cases of requests W1 and W3: one list of rows, and what a row claims.
 -- That each row's claim holds is `marked-cases` of `proofs/Table.antt`.
 use mathlib.Core.Bool.{true, false}
 use mathlib.Core.List.{List, [], _∷_}
 use mathlib.Core.Path.{_≡_}
 use Prim.Native.Nat.{ℕ}
 use Rattle.machine.specs.declared.Machine.{Machine}
-use Rattle.machine.specs.Fields.{withEvent, withButton, withSciEn, withTime, enter}
+use Rattle.machine.specs.Fields.{withEvent, withButton, withSciEn, withTime, withWakePin, enter}
 use Rattle.machine.specs.PowerOn.{powerOn}
 use Rattle.model.specs.Answer.{stepNumber, stepValue}
 use Rattle.model.specs.Step.{ticks, stepOf}
@@ -78,6 +78,13 @@ read port width = step.Read (record { port = port; width = width })
 
 abbrev write : ℕ → ℕ → ℕ → Step
 write port width written = step.Write (record { port = port; width = width }) written
+
+-- the wake pin becomes active, and inactive
+abbrev active : Step
+active = step.Event event.PinActive
+
+abbrev inactive : Step
+inactive = step.Event event.PinInactive
 
 -- the power-on machine, with a timer of 24 bits
 abbrev narrow : Machine
@@ -153,4 +160,18 @@ rows =
     row (heldAt 8388607 14318179) (ticks 4294967295 gives 1 ∷ ticks 4294967295 gives 0 ∷ []) (left 0xC631 0 8388608 14318180 5) ∷
     -- none in S3
     row (enter (counting narrow 8388607) 3) (ticks 1 gives 0 ∷ []) (left 0x0000 0 8388607 0 3) ∷
+    -- W3: "Clearing works only with the pin inactive; making the pin inactive clears nothing."
+    row (withWakePin allSet true)
+    (write 0x400 2 0xFFFF gives 0 ∷ read 0x400 2 gives 0x4000 ∷ inactive gives 0 ∷ read 0x400 2 gives 0x4000 ∷ write 0x401 1 0xFF gives 0 ∷ [])
+    (left 0x0000 0 0 0 0) ∷
+    -- "Pin active while asleep and not disabled wakes and sets the bit."; "30 when the pin is already at that level"
+    row (enter narrow 3) (active gives 0 ∷ active refused 30 ∷ []) (left 0xC000 0 0 0 0) ∷
+    -- disabled: it sleeps on
+    row (enter (withEvent narrow 0 0x4000) 3) (active gives 0 ∷ active refused 30 ∷ []) (left 0x0000 0x4000 0 0 3) ∷
+    -- "In S0 and S5 a pin step changes the level only"
+    row narrow (inactive refused 30 ∷ active gives 0 ∷ active refused 30 ∷ []) (left 0x0000 0 0 0 0) ∷
+    -- "After a wake from S5 the pin keeps its level while the bit is zero."
+    row (enter (withEvent narrow 0x4000 0) 5) (active gives 0 ∷ step.Event event.Press gives 0 ∷ active refused 30 ∷ []) (left 0x0100 0 0 0 0) ∷
+    -- "Entering sleep with the pin already active does not wake."
+    row (withWakePin (withEvent narrow 0x4000 0) true) (write 0x404 2 0x3400 gives 0 ∷ write 0x444 2 0x2800 gives 0 ∷ read 0x400 2 refused 20 ∷ []) (left 0x4000 0 0 0 3) ∷
     []

@@ -3,7 +3,7 @@
 use mathlib.Core.Path.{_≡_, refl, sym, _∙_, ap, ap₂}
 use mathlib.Core.Bool.{Bool, true, false, cond, _&&_, false≢true}
 use Prim.Native.Nat.{ℕ}
-use Rattle.lists.proofs.Tests.{and-left}
+use lib.Bits.{or-zero-r}
 use Rattle.bits.proofs.Algebra.{or-swap}
 use Rattle.clock.specs.declared.Clock.{Clock}
 use Rattle.platform.specs.declared.settings.Settings.{Settings}
@@ -21,10 +21,10 @@ use Rattle.registers.specs.Registers.{statusAfter, enableAfter, inGpeStatus, gp
 use Rattle.model.specs.Answer.{firstApplying}
 use Rattle.model.specs.Bus.{writeOf, gpeWritten}
 use Rattle.model.specs.Control.{typAfter, completes, armedAfter, bmRldAfter, gblRlsAfter, controlled, controlWritten}
-use Rattle.model.specs.Effect.{steppedBy, unmoved, done, unlessRefused, eventWrite, completing, controlWrite, stsByte, enByte, gpeWrite, writeEffect, wakesIf, pressWakes, pressEffect, releaseEffect, signalEffect, pcieWakeEffect, noticeEffect, generalByte, generalEffect, clockEffect, ticksEffect, effectBy, eventEffect, effectOf}
+use Rattle.model.specs.Effect.{steppedBy, unmoved, done, unlessRefused, eventWrite, completing, controlWrite, stsByte, enByte, gpeWrite, writeEffect, wakesIf, pressWakes, pressEffect, releaseEffect, signalEffect, pinNext, pinEffect, noticeEffect, generalByte, generalEffect, clockEffect, ticksEffect, effectBy, eventEffect, effectOf}
 use Rattle.model.specs.EventKinds.{EventKind, eventKind}
 use Rattle.model.specs.EventKinds as kind
-use Rattle.model.specs.Events.{StatusBit, eventBit, pm1Mask, inS5, pressOf, signalOf, signalWakes, pcieWakes, pcieWakeOf, inGpe0, generalEnabled, generalRaised, generalOf, timed, clockAfter, tickedBy, turnsBy, valueBy, doneBy, eventOf}
+use Rattle.model.specs.Events.{StatusBit, eventBit, pm1Mask, inS5, pressOf, signalOf, signalWakes, pinWakes, pinOf, inGpe0, generalEnabled, generalRaised, generalOf, timed, clockAfter, tickedBy, turnsBy, valueBy, doneBy, eventOf}
 use Rattle.model.specs.Firmware.{isAcpiEnable, isAcpiDisable, sciEnAfter, enablesAfter, takeOf, dropOf}
 use Rattle.model.specs.Step.{registerOf, offsetOf, refusalsBy, doneValue, doneOf, answerTo, accepted, after, stepOf}
 use Rattle.model.specs.declared.Answer.{Answer}
@@ -88,11 +88,10 @@ signal-does m bit true u e f = rw e refl
 signal-does m bit false true e f = rw (e, f) refl
 signal-does m bit false false e f = rw (e, f) refl
 
--- what wakes is asleep
-pcie-does : (m : Machine) (t : Bool) → pcieWakes m ≡ t → steppedBy m (pcieWakeEffect m) ≡ given 0 (pcieWakeOf m)
-unfolding stored stores inNextState stateChanged pcieWakeEffect pcieWakeOf
-pcie-does m true e = rw (e, and-left (isSleeping (m .state)) _ e) refl
-pcie-does m false e = rw e refl
+pin-does : (m : Machine) (active t : Bool) → pinWakes m active ≡ t → steppedBy m (pinEffect m active) ≡ given 0 (pinOf m active)
+unfolding stored stores inNextState stateChanged pinNext pinEffect pinOf
+pin-does m active true e = rw e refl
+pin-does m active false e = rw (e, or-zero-r (m .«pm1_sts»)) refl
 
 general-does : (m : Machine) (k : ℕ) (t u v : Bool) → inS5 m ≡ t → inGpe0 (m .settings) k ≡ u → (isSleeping (m .state) && generalEnabled m k) ≡ v
     → steppedBy m (generalEffect m k) ≡ given 0 (generalOf m k)
@@ -118,7 +117,7 @@ unfolding stored stores inNextState releaseEffect noticeEffect
 event-does m bit kind.press = press-does m _ _ refl refl
 event-does m bit kind.release = refl
 event-does m bit kind.signal = signal-does m bit _ _ refl refl
-event-does m bit kind.pcieWake = pcie-does m _ refl
+event-does m bit (kind.pin active) = pin-does m active _ refl
 event-does m bit kind.notice = refl
 event-does m bit (kind.general k) = general-does m k _ _ _ refl refl refl
 event-does m bit (kind.ticks n) = ticks-do m n _ refl
@@ -178,17 +177,17 @@ abbrev pub readsNoByte : EventKind → Bool
 readsNoByte kind.press = true
 readsNoByte kind.release = true
 readsNoByte kind.signal = true
-readsNoByte kind.pcieWake = true
+readsNoByte (kind.pin active) = true
 readsNoByte kind.notice = true
 readsNoByte (kind.general k) = false
 readsNoByte (kind.ticks n) = true
 
 pub event-bare : (m : Machine) (bit : StatusBit) (k : EventKind) → readsNoByte k ≡ true → eventEffect (bareOf m) bit k ≡ eventEffect m bit k
-unfolding eventEffect firstApplying awake inS5 pressEffect pressWakes wakesIf releaseEffect signalEffect pcieWakeEffect noticeEffect ticksEffect
+unfolding eventEffect firstApplying awake inS5 pressEffect pressWakes wakesIf releaseEffect signalEffect pinEffect noticeEffect ticksEffect
 event-bare m bit kind.press p = refl
 event-bare m bit kind.release p = refl
 event-bare m bit kind.signal p = refl
-event-bare m bit kind.pcieWake p = refl
+event-bare m bit (kind.pin active) p = refl
 event-bare m bit kind.notice p = refl
 event-bare m bit (kind.general k) p = absurd (false≢true p)
 event-bare m bit (kind.ticks n) p = refl

@@ -1,7 +1,7 @@
 -- An event's bit and kind are one of a few pairs: a bit of the PM1 status, in the register, and for a notice always fitted; or a general
 -- event's own. A law about events goes by these pairs.
 -- Assumes nothing.
-use mathlib.Core.Bool.{true}
+use mathlib.Core.Bool.{Bool, true, false}
 use mathlib.Core.Path.{_≡_}
 use Prim.Native.Nat.{ℕ, _<_, _^_}
 use lib.Dec.{lit<}
@@ -28,7 +28,7 @@ pub data Pair : StatusBit → EventKind → Type 0 where
   press : Pair (pm1 8) kind.press
   release : Pair (pm1 8) kind.release
   signal : (i : ℕ) → i < 16 → Pair (pm1 i) kind.signal
-  pcie-wake : Pair (pm1 14) kind.pcieWake
+  pin : (active : Bool) → Pair (pm1 14) (kind.pin active)
   notice : (i : ℕ) → i < 16 → AlwaysFitted i → Pair (pm1 i) kind.notice
   general : (k : ℕ) → Pair (gpe k) (kind.general k)
   ticks : (n : ℕ) → Pair (pm1 0) (kind.ticks n)
@@ -38,7 +38,8 @@ pair-of event.Press = press
 pair-of event.Release = release
 pair-of event.SleepPress = signal 9 (lit< tt)
 pair-of event.Alarm = signal 10 (lit< tt)
-pair-of event.PcieWake = pcie-wake
+pair-of event.PinActive = pin true
+pair-of event.PinInactive = pin false
 pair-of event.BusMaster = notice 4 (lit< tt) bm-within
 pair-of event.Unlock = notice 5 (lit< tt) gbl-within
 pair-of (event.General k) = general k
@@ -50,7 +51,7 @@ pub pm1-or-general : (P : StatusBit → EventKind → Type 0) → ((i : ℕ) (k 
 pm1-or-general P by-pm1 by-number press = by-pm1 8 kind.press (lit< tt)
 pm1-or-general P by-pm1 by-number release = by-pm1 8 kind.release (lit< tt)
 pm1-or-general P by-pm1 by-number (signal i l) = by-pm1 i kind.signal l
-pm1-or-general P by-pm1 by-number pcie-wake = by-pm1 14 kind.pcieWake (lit< tt)
+pm1-or-general P by-pm1 by-number (pin active) = by-pm1 14 (kind.pin active) (lit< tt)
 pm1-or-general P by-pm1 by-number (notice i l f) = by-pm1 i kind.notice l
 pm1-or-general P by-pm1 by-number (general k) = by-number k
 pm1-or-general P by-pm1 by-number (ticks n) = by-pm1 0 (kind.ticks n) (lit< tt)

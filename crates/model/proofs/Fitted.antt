@@ -12,15 +12,16 @@ use Rattle.lists.specs.Any.{any}
 use Rattle.bits.specs.Writes.{within}
 use Rattle.bits.specs.Digit.{digit}
 use Rattle.bits.proofs.Algebra.{and-swap, masked-or}
-use Rattle.bits.proofs.Writes.{within-masked}
+use Rattle.bits.proofs.Writes.{masked-lt, within-masked}
 use Rattle.bits.proofs.Digits.{digit-and, digit-own-bit, digit-other-bit, same-digits}
 use Rattle.cells.specs.Cells.{isIn, cells}
 use Rattle.cells.specs.declared.Column.the-variants as column
-use Rattle.cells.proofs.Masks.{one, mask-digit}
+use Rattle.cells.proofs.Masks.{one, mask-small, mask-digit}
 use Rattle.platform.specs.Blocks.{present}
 use Rattle.platform.specs.Fitted.{statusCells}
 use Rattle.platform.specs.declared.settings.Settings.{Settings}
 use Rattle.machine.specs.Status.{tmrBit, bmBit, gblBit, wakBit, hasBit}
+use Rattle.registers.specs.Registers.{homesIn, statusIn}
 use Rattle.model.specs.Events.{fits, tmrRaised}
 use Rattle.model.proofs.LinesExactly.{BothSet, has-bit-exactly}
 
@@ -93,3 +94,9 @@ module _ (s : Settings) where
       go true true e = has-within (statusCells s) 0 e
       go true false e = zero-within (statusCells s)
       go false u e = zero-within (statusCells s)
+
+-- what a block shows of the status lies in the register
+pub status-in-lt : (s : Settings) (b : Bool) → statusIn s b < 2 ^ 16
+status-in-lt s b =
+    let home = homesIn (s .«event_homes») b in
+    rw (and-comm (statusCells s) home) (masked-lt 16 home (statusCells s) (mask-small column.Status (s .flags) (present (s .«pm_tmr»)) cells))

@@ -27,9 +27,9 @@ use Rattle.platform.specs.Rules.{smiBlock, blockCount, blocksOf}
 use Rattle.platform.specs.declared.block.Block.{Block}
 use Rattle.platform.specs.declared.settings.Settings.{Settings}
 use Rattle.platform.proofs.Legal.{holds-from}
-use Rattle.machine.specs.Status.{pwrbtnBit}
+use Rattle.machine.specs.Status.{pwrbtnBit, pciexpWakeBit}
 use Rattle.registers.specs.Registers.{enableIn, covered, placed, inStatus, inEnable, onesIn, statusAfter, enableAfter, hasPm1bCnt, coversHigh, writtenBit}
-use Rattle.machine.specs.Fields.{withEvent, withControl, withCommand, withButton, withArbDis, withSciEn, withTime, enter}
+use Rattle.machine.specs.Fields.{withEvent, withControl, withCommand, withButton, withArbDis, withSciEn, withTime, withWakePin, enter}
 use Rattle.machine.specs.Lines.{awake}
 use Rattle.machine.specs.Sleep.{isSleeping, woken, wokenIf, pending, completed, restarted}
 use Rattle.machine.specs.declared.Machine.{Machine}
@@ -38,7 +38,7 @@ use Rattle.machine.specs.declared.sleeping.WakeSource.the-variants as source
 use Rattle.model.specs.Answer.{Refusal, firstApplying}
 use Rattle.model.specs.Bus.{leadsNowhere, gpeWritten, writeOf}
 use Rattle.model.specs.Control.{completes, namedState, typAfter, armedAfter, controlled, controlWritten}
-use Rattle.model.specs.Events.{StatusBit, pm1, pm1Mask, sourceOf, eventMask, eventSource, fits, fitted, raised, inS5, pressOf, releaseOf, signalOf, pcieWakes, pcieWakeOf, inGpe0, inGpe1, generalRaised, generalEnabled, generalOf, clockOf, tmrRaised, timed, tickedBy, doneBy, eventOf}
+use Rattle.model.specs.Events.{StatusBit, pm1, pm1Mask, sourceOf, eventMask, eventSource, fits, fitted, raised, inS5, pressOf, releaseOf, signalOf, pinWakes, pinOf, inGpe0, inGpe1, generalRaised, generalEnabled, generalOf, clockOf, tmrRaised, timed, tickedBy, doneBy, eventOf}
 use Rattle.model.specs.Firmware.{isAcpiEnable, enablesAfter, sciEnAfter}
 use Rattle.model.specs.EventKinds.{EventKind}
 use Rattle.model.specs.Legal.{absentPair, stateAllowed}
@@ -204,6 +204,10 @@ module _ (P : Machine → Type 0) where
   abbrev pub KeptReleasing : Type 0
   KeptReleasing = (m : Machine) → P m → P (releaseOf m)
 
+  -- the wake pin
+  abbrev pub KeptPinning : Type 0
+  KeptPinning = (m : Machine) (active : Bool) → fits (m .settings) pciexpWakeBit ≡ true → P m → P (withWakePin m active)
+
   -- ticks, and those with the override
   abbrev pub KeptTicking : Type 0
   KeptTicking = (m : Machine) (n : ℕ) → awake m ≡ true → overriddenBy m n ≡ false → P m → P (ticked m n)
@@ -228,6 +232,7 @@ pub record Keeps (P : Machine → Type 0) : Type 0 where
   pub restarts : KeptRestarting P
   pub presses : KeptPressing P
   pub releases : KeptReleasing P
+  pub pins : KeptPinning P
   pub ticks : KeptTicking P
   pub overrides : KeptOverriding P
 
@@ -318,12 +323,16 @@ module _ (P : Machine → Type 0) (keeps : Keeps P) where
       let set = raised m (pm1Mask bit) in
       pick P (inS5 m) m (wokenIf (sourceOf bit) _ set) (λ e. p) (λ e. woken-kept (sourceOf bit) _ set (keeps .raises m (pm1Mask bit) w p))
 
-  pcie-kept : (m : Machine) → within (statusCells (m .settings)) (eventMask event.PcieWake) ≡ true → P m → P (pcieWakeOf m)
-  unfolding pcieWakeOf
-  pcie-kept m w p =
-      let by = eventSource event.PcieWake in
-      let set = raised m (eventMask event.PcieWake) in
-      pick P (pcieWakes m) (wokenIf by true set) m (λ e. woken-kept by true set (keeps .raises m (eventMask event.PcieWake) w p)) (λ e. p)
+  -- what wakes is asleep
+  pin-kept : (m : Machine) (active : Bool) → fits (m .settings) pciexpWakeBit ≡ true → P m → P (pinOf m active)
+  unfolding pinOf
+  pin-kept m active f p =
+      let by = eventSource event.PinActive in
+      let level = withWakePin m active in
+      let set = keeps .raises level pciexpWakeBit (has-within (statusCells (m .settings)) 14 f) (keeps .pins m active f p) in
+      pick P (pinWakes m active) (woken by (raised level pciexpWakeBit)) level
+      (λ e. keeps .wakes by (raised level pciexpWakeBit) (and-left (isSleeping (m .state)) _ (and-right active _ e)) set)
+      (λ e. keeps .pins m active f p)
 
   general-kept : (m : Machine) (k : ℕ) → (inGpe0 (m .settings) k || inGpe1 (m .settings) k) ≡ true → P m → P (generalOf m k)
   unfolding generalOf
@@ -351,7 +360,7 @@ module _ (P : Machine → Type 0) (keeps : Keeps P) where
   kind-kept pair.press m a p = press-kept m (first-fits m (pm1 8) _ _ a) p
   kind-kept pair.release m a p = keeps .releases m p
   kind-kept (pair.signal i l) m a p = signal-kept m (pm1 i) (has-within _ i (first-fits m (pm1 i) _ _ a)) p
-  kind-kept pair.pcie-wake m a p = pcie-kept m (has-within _ 14 (first-fits m (pm1 14) _ _ a)) p
+  kind-kept (pair.pin active) m a p = pin-kept m active (first-fits m (pm1 14) _ _ a) p
   kind-kept (pair.notice i l f) m a p = keeps .raises m (2 ^ i) (f (m .settings)) p
   kind-kept (pair.general k) m a p = general-kept m k (not-false _ (or-left _ _ (passes m (step.Event (event.General k)) a 29))) p
   kind-kept (pair.ticks n) m a p = ticks-kept m n p

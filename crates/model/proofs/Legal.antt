@@ -34,13 +34,13 @@ use Rattle.machine.proofs.Accepted.{accepted-machine, accepted-legal}
 use Rattle.machine.proofs.AnyEnabled.{or-swapped, walk-with-bit}
 use Rattle.model.specs.Bus.{gpeWritten}
 use Rattle.model.specs.Events.{inS5, inGpe0, inGpe1, isEnabled, generalEnabled, generalRaised}
-use Rattle.model.specs.Legal.{onlyIf, statusLegal, enablesLegal, bytesLegal, gpeLegal, arbDisLegal, stateAllowed, stateLegal, counterLegal, holdLegal, buttonLegal, commandLegal, armedLegal, slpTypBLegal, commandByteLegal, slpTypsLegal, gpePendingLegal, listed, notTwo, settingsFit, fitsTypes, legal}
+use Rattle.model.specs.Legal.{onlyIf, statusLegal, enablesLegal, bytesLegal, gpeLegal, arbDisLegal, stateAllowed, stateLegal, counterLegal, holdLegal, buttonLegal, wakePinLegal, commandLegal, armedLegal, slpTypBLegal, commandByteLegal, slpTypsLegal, gpePendingLegal, listed, notTwo, settingsFit, fitsTypes, legal}
 use Rattle.model.specs.Step.{after}
 use Rattle.model.specs.declared.Step.{Step}
 use Rattle.model.proofs.Bytes.{Bytes, bytes-mean, mean-bytes, no-bytes, bytes-with-bit, gpe-length, event-has-byte, status-written, enable-written}
 use Rattle.model.proofs.Fits.{set-up-fits}
 use Rattle.model.proofs.Fitted.{zero-within, or-within, part-within, wak-within}
-use Rattle.model.proofs.Kept.{ticked, overriddenBy, KeptRaising, KeptClearing, KeptEnabling, KeptLatching, KeptTaking, KeptControlling, KeptArbitrating, KeptSleeping, KeptWaking, KeptRestarting, KeptPressing, KeptReleasing, KeptTicking, KeptOverriding, Keeps, kept-by-steps}
+use Rattle.model.proofs.Kept.{ticked, overriddenBy, KeptRaising, KeptClearing, KeptEnabling, KeptLatching, KeptTaking, KeptControlling, KeptArbitrating, KeptSleeping, KeptWaking, KeptRestarting, KeptPressing, KeptReleasing, KeptPinning, KeptTicking, KeptOverriding, Keeps, kept-by-steps}
 use Rattle.model.proofs.LinesExactly.{WalkStored, awake-exactly, both}
 use Rattle.model.proofs.Settings.{settings-kept}
 
@@ -155,6 +155,17 @@ button-keeps =
     let ticks : KeptTicking Button
     = λ m n up o p. (p .0, (hold-at-most (m .button) (m .hold) _ (p .1 .0), λ f u. held-ticked m n o f (p .1 .1 f (awake-not-5 m up)))) in
     let overrides : KeptOverriding Button = λ m n up o p. (p .0, (hold-at-most (m .button) (m .hold) _ (p .1 .0), λ f u. absurd (u refl))) in
+    search
+
+-- ---- the wake pin
+
+abbrev Pin : Machine → Type 0
+Pin m = wakePinLegal m ≡ true
+
+pin-keeps : Keeps Pin
+unfolding wakePinLegal generalRaised
+pin-keeps =
+    let pins : KeptPinning Pin = λ m active f p. only-of active _ (λ e. f) in
     search
 
 -- ---- the counter
@@ -328,6 +339,7 @@ pub record Legal (m : Machine) : Type 0 where
   pub counter : counterLegal m ≡ true
   pub hold : holdLegal m ≡ true
   pub button : buttonLegal m ≡ true
+  pub wake-pin : wakePinLegal m ≡ true
   pub command : commandLegal m ≡ true
   pub armed : armedLegal m ≡ true
   pub slp-typ-b : slpTypBLegal m ≡ true
@@ -346,15 +358,16 @@ legal-means m e =
     let (e₄, slp-typ-b) = parts _ (slpTypBLegal m) e₃ in
     let (e₅, armed) = parts _ (armedLegal m) e₄ in
     let (e₆, command) = parts _ (commandLegal m) e₅ in
-    let (e₇, button) = parts _ (buttonLegal m) e₆ in
-    let (e₈, hold) = parts _ (holdLegal m) e₇ in
-    let (e₉, counter) = parts _ (counterLegal m) e₈ in
-    let (e₁₀, state) = parts _ (stateLegal m) e₉ in
-    let (e₁₁, arb-dis) = parts _ (arbDisLegal m) e₁₀ in
-    let (e₁₂, gpe1) = parts _ (gpeLegal m true) e₁₁ in
-    let (e₁₃, gpe0) = parts _ (gpeLegal m false) e₁₂ in
-    let (e₁₄, enables) = parts _ (enablesLegal m) e₁₃ in
-    let (settings, status) = parts (legalSettings (m .settings)) (statusLegal m) e₁₄ in
+    let (e₇, wake-pin) = parts _ (wakePinLegal m) e₆ in
+    let (e₈, button) = parts _ (buttonLegal m) e₇ in
+    let (e₉, hold) = parts _ (holdLegal m) e₈ in
+    let (e₁₀, counter) = parts _ (counterLegal m) e₉ in
+    let (e₁₁, state) = parts _ (stateLegal m) e₁₀ in
+    let (e₁₂, arb-dis) = parts _ (arbDisLegal m) e₁₁ in
+    let (e₁₃, gpe1) = parts _ (gpeLegal m true) e₁₂ in
+    let (e₁₄, gpe0) = parts _ (gpeLegal m false) e₁₃ in
+    let (e₁₅, enables) = parts _ (enablesLegal m) e₁₄ in
+    let (settings, status) = parts (legalSettings (m .settings)) (statusLegal m) e₁₅ in
     record {
       settings = settings;
       status = status;
@@ -366,6 +379,7 @@ legal-means m e =
       counter = counter;
       hold = hold;
       button = button;
+      wake-pin = wake-pin;
       command = command;
       armed = armed;
       slp-typ-b = slp-typ-b;
@@ -389,6 +403,7 @@ means-legal m l =
       l .counter,
       l .hold,
       l .button,
+      l .wake-pin,
       l .command,
       l .armed,
       l .slp-typ-b,
@@ -465,6 +480,7 @@ clauses-kept m s l =
       counter = kept-by-steps Counter counter-keeps m s (l .counter);
       hold = held-hold (after m s) (button .1);
       button = button .0;
+      wake-pin = kept-by-steps Pin pin-keeps m s (l .wake-pin);
       command = commands .0;
       armed = sleep .1;
       slp-typ-b = control .0;
@@ -510,7 +526,7 @@ module _ (s : Settings) where
   power-on-gpe e = (legal-guaranteed s e, no-bytes _, no-bytes _, no-bytes _, no-bytes _, no-walk)
 
   pub power-on-listed : legalSettings s ≡ true → listed (powerOn s) ≡ true
-  unfolding listed arbDisLegal stateAllowed buttonLegal armedLegal commandByteLegal slpTypsLegal
+  unfolding listed arbDisLegal stateAllowed buttonLegal wakePinLegal armedLegal commandByteLegal slpTypsLegal
   power-on-listed e =
       let bytes = mean-gpe (powerOn s) (power-on-gpe e) in
       let hold = held-hold (powerOn s) (lit≤ tt, λ o n. lit< tt) in

@@ -14,3 +14,4 @@ pub mod Legal
 pub mod Readings
 pub mod Wakes
 pub mod Turns
+pub mod Pin

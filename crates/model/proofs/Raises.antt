@@ -28,12 +28,12 @@ use Rattle.machine.specs.declared.sleeping.WakeSource.the-variants as source
 use Rattle.model.specs.Answer.{firstApplying}
 use Rattle.model.specs.Bus.{gpeWritten, writeOf}
 use Rattle.model.specs.Control.{completes, namedState, controlled, controlWritten}
-use Rattle.machine.specs.Status.{tmrBit, pwrbtnBit, wakBit, hasBit}
+use Rattle.machine.specs.Status.{tmrBit, pwrbtnBit, pciexpWakeBit, wakBit}
 use Rattle.registers.specs.Registers.{laneAt, oneByte, placed, covered, clearable, inStatus, onesIn, statusAfter, gpeSts, inGpeStatus, gpeStsAfter}
-use Rattle.model.specs.Events.{StatusBit, pm1, gpe, eventBit, pm1Mask, sourceOf, eventMask, eventSource, fits, raised, inS5, pressOf, signalWakes, signalOf, pcieWakes, pcieWakeOf, inGpe0, inGpe1, withBit, generalRaised, generalEnabled, generalOf, clockAfter, tmrRaised, timed, tickedBy, doneBy, eventOf}
-use Rattle.machine.specs.Fields.{withTime, enter}
+use Rattle.model.specs.Events.{StatusBit, pm1, gpe, eventBit, pm1Mask, sourceOf, eventSource, fits, raised, inS5, pressOf, signalWakes, signalOf, pinWakes, pinOf, inGpe0, inGpe1, withBit, generalRaised, generalEnabled, generalOf, clockAfter, tmrRaised, timed, tickedBy, doneBy, eventOf}
+use Rattle.machine.specs.Fields.{withTime, withWakePin, enter}
 use Rattle.machine.specs.Lines.{awake}
-use Rattle.model.specs.Raises.{Change, unchanged, clearing, raising, bitsIf, wakIf, pressChange, signalChange, pcieWakeChange, ticksChange, changeBy, eventChange, wakesAtOnce, writeChange, ruleChange, ifAccepted, raises, clears, liesIn, gpeMask, isPress, gpeChangeBy, gpeEventChange, gpeOnes, gpeRuleChange, gpeRaises, gpeClears}
+use Rattle.model.specs.Raises.{Change, unchanged, clearing, raising, bitsIf, wakIf, pressChange, signalChange, pinChange, ticksChange, changeBy, eventChange, wakesAtOnce, writeChange, ruleChange, ifAccepted, raises, clears, liesIn, gpeMask, isPress, gpeChangeBy, gpeEventChange, gpeOnes, gpeRuleChange, gpeRaises, gpeClears}
 use Rattle.machine.specs.Sleep.{isSleeping, pending, woken, wokenIf, completed, restarted, overridden}
 use Rattle.model.specs.EventKinds.{EventKind, eventKind}
 use Rattle.model.specs.EventKinds as kind
@@ -145,11 +145,10 @@ module _ (m : Machine) (h : m .«pm1_sts» < 2 ^ 16) where
       let wakes = signalWakes m (pm1Mask bit) in
       rw e (woken-status (sourceOf bit) wakes (raised m (pm1Mask bit)) ∙ raised-twice 16 (m .«pm1_sts») (pm1Mask bit) (wakIf m wakes) h)
 
-  pcie-wake-law : (l d : Bool) → isSleeping (m .state) ≡ l → hasBit (m .«pm1_en») (eventMask event.PcieWake) ≡ d → Law (pcieWakeOf m) (pcieWakeChange m)
-  unfolding pcieWakeOf pcieWakeChange
-  pcie-wake-law true false p q = rw (p, q) (raised-twice 16 (m .«pm1_sts») (eventMask event.PcieWake) wakBit h)
-  pcie-wake-law true true p q = rw (p, q) nothing
-  pcie-wake-law false d p q = rw p nothing
+  pin-law : (active t : Bool) → pinWakes m active ≡ t → Law (pinOf m active) (pinChange m active)
+  unfolding pinOf pinChange
+  pin-law active true e = rw e (raised-twice 16 (m .«pm1_sts») pciexpWakeBit wakBit h)
+  pin-law active false e = rw e nothing
 
   general-law : (k : ℕ) (b : Bool) → inS5 m ≡ b → Law (generalOf m k) (raising (wakIf m (generalEnabled m k)))
   unfolding generalOf generalRaised
@@ -168,7 +167,7 @@ module _ (m : Machine) (h : m .«pm1_sts» < 2 ^ 16) where
   event-law bit kind.press = press-law (inS5 m) refl
   event-law bit kind.release = nothing
   event-law bit kind.signal = signal-law bit (inS5 m) refl
-  event-law bit kind.pcieWake = pcie-wake-law (isSleeping (m .state)) (hasBit (m .«pm1_en») (eventMask event.PcieWake)) refl refl
+  event-law bit (kind.pin active) = pin-law active (pinWakes m active) refl
   event-law bit kind.notice = only-raised 16 (m .«pm1_sts») (pm1Mask bit) h
   event-law bit (kind.general k) = general-law k (inS5 m) refl
   event-law bit (kind.ticks n) = ap (λ x. x .«pm1_sts») (ticks-at-once n m) ∙ ticks-law n (awake m) (clockAfter m n .off) refl refl
@@ -232,12 +231,11 @@ module _ (m : Machine) where
   signal-fits bit h = raising-fits 16 _ (bits-if-lt 16 (not (inS5 m)) _ (or-lt 16 bit (wakIf m (signalWakes m bit)) h (wak-lt m (signalWakes m bit))))
 
   event-fits : (bit : StatusBit) (k : EventKind) → pm1Mask bit < 2 ^ 16 → Fits 16 (changeBy m bit k)
-  unfolding pressChange pcieWakeChange ticksChange
+  unfolding pressChange pinChange ticksChange
   event-fits bit kind.press h = (bits-if-lt 16 (inS5 m) (2 ^ 16 - 1) (omega arith), or-lt 16 (wakIf m true) pwrbtnBit (wak-lt m true) (omega arith))
   event-fits bit kind.release h = unchanged-fits 16
   event-fits bit kind.signal h = signal-fits (pm1Mask bit) h
-  event-fits bit kind.pcieWake h =
-      raising-fits 16 _ (bits-if-lt 16 (pcieWakes m) (bitOr (eventMask event.PcieWake) wakBit) (omega arith))
+  event-fits bit (kind.pin active) h = raising-fits 16 _ (bits-if-lt 16 (pinWakes m active) (bitOr pciexpWakeBit wakBit) (omega arith))
   event-fits bit kind.notice h = raising-fits 16 (pm1Mask bit) h
   event-fits bit (kind.general k) h = raising-fits 16 _ (wak-lt m (generalEnabled m k))
   event-fits bit (kind.ticks n) h =
@@ -326,12 +324,11 @@ module _ (b : Bool) where
       let wakes = signalWakes m (pm1Mask bit) in
       bytes-if (inS5 m) m (wokenIf (sourceOf bit) wakes set) m refl (woken-bytes (sourceOf bit) wakes set)
 
-  pcie-wake-bytes : (m : Machine) → gpeSts (pcieWakeOf m) b ≡ gpeSts m b
-  unfolding pcieWakeOf
-  pcie-wake-bytes m =
-      let by = eventSource event.PcieWake in
-      let set = raised m (eventMask event.PcieWake) in
-      bytes-if (pcieWakes m) (wokenIf by true set) m m (woken-bytes by true set) refl
+  pin-bytes : (m : Machine) (active : Bool) → gpeSts (pinOf m active) b ≡ gpeSts m b
+  unfolding pinOf
+  pin-bytes m active =
+      let level = withWakePin m active in
+      bytes-if (pinWakes m active) (woken (eventSource event.PinActive) (raised level pciexpWakeBit)) level m refl refl
 
   timed-bytes : (m : Machine) (t : Clock) → gpeSts (timed m t) b ≡ gpeSts m b
   unfolding timed
@@ -434,7 +431,7 @@ module _ (m : Machine) (b : Bool) (i : ℕ) (h : getD (gpeSts m b) i 0 < 2 ^ 8) 
   gpe-event-law pair.press = gpe-press-law (inS5 m) refl
   gpe-event-law pair.release = pm1-event-law 8 kind.release refl refl
   gpe-event-law (pair.signal j l) = pm1-event-law j kind.signal refl (signal-bytes b m (pm1 j))
-  gpe-event-law pair.pcie-wake = pm1-event-law 14 kind.pcieWake refl (pcie-wake-bytes b m)
+  gpe-event-law (pair.pin active) = pm1-event-law 14 (kind.pin active) refl (pin-bytes b m active)
   gpe-event-law (pair.notice j l f) = pm1-event-law j kind.notice refl refl
   gpe-event-law (pair.general k) = gpe-general-law k (inS5 m) refl
   gpe-event-law (pair.ticks n) = pm1-event-law 0 (kind.ticks n) refl (ticks-bytes b n m)

@@ -40,7 +40,7 @@ number-among answer.CommandWaits = inr (lit≤ tt, lit≤ tt)
 number-among answer.NoSleepState = inr (lit≤ tt, lit≤ tt)
 number-among answer.NotFitted = inr (lit≤ tt, lit≤ tt)
 number-among answer.NoSuchEvent = inr (lit≤ tt, lit≤ tt)
-number-among answer.ButtonAlready = inr (lit≤ tt, lit≤ tt)
+number-among answer.AlreadySo = inr (lit≤ tt, lit≤ tt)
 number-among answer.NoCommand = inr (lit≤ tt, lit≤ tt)
 
 -- a refusal's value is zero
@@ -56,7 +56,7 @@ refusal-value answer.CommandWaits e = refl
 refusal-value answer.NoSleepState e = refl
 refusal-value answer.NotFitted e = refl
 refusal-value answer.NoSuchEvent e = refl
-refusal-value answer.ButtonAlready e = refl
+refusal-value answer.AlreadySo e = refl
 refusal-value answer.NoCommand e = refl
 
 module _ (m : Machine) (s : Step) where
@@ -195,7 +195,7 @@ events-rise : (m : Machine) (bit : StatusBit) (k : EventKind) → rising 0 (refu
 events-rise m bit kind.press = refl
 events-rise m bit kind.release = refl
 events-rise m bit kind.signal = refl
-events-rise m bit kind.pcieWake = refl
+events-rise m bit (kind.pin active) = refl
 events-rise m bit kind.notice = refl
 events-rise m bit (kind.general k) = refl
 events-rise m bit (kind.ticks n) = refl

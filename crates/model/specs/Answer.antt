@@ -18,7 +18,7 @@ stepNumber answer.CommandWaits = 26
 stepNumber answer.NoSleepState = 27
 stepNumber answer.NotFitted = 28
 stepNumber answer.NoSuchEvent = 29
-stepNumber answer.ButtonAlready = 30
+stepNumber answer.AlreadySo = 30
 stepNumber answer.NoCommand = 31
 
 -- "Value is the reading or the command taken, else zero"; of ticks (request W1), how often the counter's top bit turned
@@ -34,7 +34,7 @@ stepValue answer.CommandWaits = 0
 stepValue answer.NoSleepState = 0
 stepValue answer.NotFitted = 0
 stepValue answer.NoSuchEvent = 0
-stepValue answer.ButtonAlready = 0
+stepValue answer.AlreadySo = 0
 stepValue answer.NoCommand = 0
 
 -- a line of the table: its answer, and whether it applies

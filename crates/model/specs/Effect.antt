@@ -20,17 +20,18 @@ use Rattle.machine.specs.declared.sleeping.NextState.the-variants as next
 use Rattle.machine.specs.declared.sleeping.StateChange.the-variants as change
 use Rattle.machine.specs.declared.sleeping.WakeSource.{WakeSource}
 use Rattle.machine.specs.Applied.{applied}
-use Rattle.machine.specs.Fields.{withEvent, withButton, withGpePending, withTime, withCommand, withArbDis}
+use Rattle.machine.specs.Fields.{withEvent, withButton, withGpePending, withTime, withCommand, withArbDis, withWakePin}
 use Rattle.machine.specs.Gpe.{noStore}
 use Rattle.machine.specs.Lines.{awake}
 use Rattle.machine.specs.Scalars.{scalarsOf}
+use Rattle.machine.specs.Status.{pciexpWakeBit}
 use Rattle.machine.specs.Sleep.{isSleeping}
 use Rattle.registers.specs.Registers.{statusAfter, enableAfter, gpeHalf, gpeStsByte, inGpeStatus}
 use Rattle.model.specs.Answer.{firstApplying}
 use Rattle.model.specs.Control.{completes, namedState, controlled}
 use Rattle.model.specs.EventKinds.{EventKind, eventKind}
 use Rattle.model.specs.EventKinds as kind
-use Rattle.model.specs.Events.{StatusBit, gpe, eventBit, pm1Mask, eventMask, eventSource, sourceOf, raised, isS5, inS5, releaseOf, signalWakes, pcieWakes, inGpe0, numberIn, generalEnabled, clockAfter, tmrRaised}
+use Rattle.model.specs.Events.{StatusBit, gpe, eventBit, pm1Mask, eventMask, eventSource, sourceOf, raised, isS5, inS5, releaseOf, signalWakes, pinWakes, inGpe0, numberIn, generalEnabled, clockAfter, tmrRaised}
 use Rattle.model.specs.Firmware.{takeOf, dropOf}
 use Rattle.model.specs.Step.{registerOf, offsetOf, registerRefusals, refusalsBy, answerTo, accepted}
 use Rattle.model.specs.declared.Answer.{Answer}
@@ -131,11 +132,15 @@ signalEffect m bit =
     cond (inS5 m) (unmoved (scalarsOf m) (answer.Done 0))
     (done 0 (scalarsOf (raised m (pm1Mask bit))) (wakesIf (m .state) (sourceOf bit) (signalWakes m (pm1Mask bit))))
 
-unfoldable pub pcieWakeEffect : Machine → Effect
-pcieWakeEffect m =
-    cond (pcieWakes m)
-    (done 0 (scalarsOf (raised m (eventMask event.PcieWake))) (next.Changed (change.Wake (eventSource event.PcieWake))))
-    (unmoved (scalarsOf m) (answer.Done 0))
+-- the pin at its level, and its bit where it wakes
+abbrev pub pinned : Machine → Bool → Bool → Machine
+pinned m active wakes = raised (withWakePin m active) (cond wakes pciexpWakeBit 0)
+
+unfoldable pub pinNext : Bool → NextState
+pinNext wakes = cond wakes (next.Changed (change.Wake (eventSource event.PinActive))) next.Same
+
+unfoldable pub pinEffect : Machine → Bool → Effect
+pinEffect m active = done 0 (scalarsOf (pinned m active (pinWakes m active))) (pinNext (pinWakes m active))
 
 unfoldable pub noticeEffect : Machine → ℕ → Effect
 noticeEffect m mask = done 0 (scalarsOf (raised m mask)) next.Same
@@ -175,7 +180,7 @@ abbrev pub effectBy : Machine → StatusBit → EventKind → Effect
 effectBy m bit kind.press = pressEffect m
 effectBy m bit kind.release = releaseEffect m
 effectBy m bit kind.signal = signalEffect m bit
-effectBy m bit kind.pcieWake = pcieWakeEffect m
+effectBy m bit (kind.pin active) = pinEffect m active
 effectBy m bit kind.notice = noticeEffect m (pm1Mask bit)
 effectBy m bit (kind.general k) = generalEffect m k
 effectBy m bit (kind.ticks n) = ticksEffect m n

@@ -1,4 +1,4 @@
--- Buttons, alarm, PCIe wake, bus master, global lock, general events and ticks.
+-- Buttons, alarm, wake pin, bus master, global lock, general events and ticks.
 use mathlib.Core.Bool.{Bool, true, false, not, cond, _&&_, _||_}
 use mathlib.Core.List.{List}
 use Prim.Native.Nat.{ℕ, zero, suc, _+_, _-_, _/_, _%_, _^_}
@@ -12,10 +12,10 @@ use Rattle.platform.specs.Fitted.{statusCells, wideTimer}
 use Rattle.platform.specs.Rules.{eventCount}
 use Rattle.platform.specs.declared.settings.Settings.{Settings}
 use Rattle.machine.specs.declared.Machine.{Machine}
-use Rattle.machine.specs.Status.{tmrBit, hasBit}
-use Rattle.machine.specs.Fields.{withEvent, withGpe, withButton, withTime}
+use Rattle.machine.specs.Status.{tmrBit, pciexpWakeBit, hasBit}
+use Rattle.machine.specs.Fields.{withEvent, withGpe, withButton, withTime, withWakePin}
 use Rattle.machine.specs.Lines.{awake}
-use Rattle.machine.specs.Sleep.{isSleeping, wakeBits, wokenIf, restarted, overridden}
+use Rattle.machine.specs.Sleep.{isSleeping, wakeBits, woken, wokenIf, restarted, overridden}
 use Rattle.machine.specs.declared.sleeping.WakeSource.{WakeSource}
 use Rattle.machine.specs.declared.sleeping.WakeSource.the-variants as source
 use Rattle.model.specs.EventKinds.{EventKind, eventKind}
@@ -30,13 +30,15 @@ pub data StatusBit : Type 0 where
   pm1 : ℕ → StatusBit
   gpe : ℕ → StatusBit
 
--- "press and release go by bit 8, sleep press 9, alarm 10, PCIe wake 14, bus-master 4, unlock 5, ticks 0"; a general event goes by its own
+-- "press and release go by bit 8, sleep press 9, alarm 10, PCIe wake 14, bus-master 4, unlock 5, ticks 0"; a general event goes by its own.
+-- Request W3: "both pin steps .. go by bit 14"
 abbrev pub eventBit : Event → StatusBit
 eventBit event.Press = pm1 «PWRBTN_STS»
 eventBit event.Release = pm1 «PWRBTN_STS»
 eventBit event.SleepPress = pm1 «SLPBTN_STS»
 eventBit event.Alarm = pm1 «RTC_STS»
-eventBit event.PcieWake = pm1 «PCIEXP_WAKE_STS»
+eventBit event.PinActive = pm1 «PCIEXP_WAKE_STS»
+eventBit event.PinInactive = pm1 «PCIEXP_WAKE_STS»
 eventBit event.BusMaster = pm1 «BM_STS»
 eventBit event.Unlock = pm1 «GBL_STS»
 eventBit (event.General k) = gpe k
@@ -94,13 +96,18 @@ signalWakes m mask = hasBit (m .«pm1_en») mask && hasBit (wakeBits (m .setting
 unfoldable pub signalOf : Machine → StatusBit → Machine
 signalOf m bit = cond (inS5 m) m (wokenIf (sourceOf bit) (signalWakes m (pm1Mask bit)) (raised m (pm1Mask bit)))
 
--- "PCIe wake if its disable is clear" (PCIEXP_WAKE_DIS); it "does nothing in S0"
-abbrev pub pcieWakes : Machine → Bool
-pcieWakes m = isSleeping (m .state) && not (hasBit (m .«pm1_en») (eventMask event.PcieWake))
+-- ---- the wake pin: request W3
 
--- ".. and only then is its bit set"
-unfoldable pub pcieWakeOf : Machine → Machine
-pcieWakeOf m = cond (pcieWakes m) (wokenIf (eventSource event.PcieWake) true (raised m (eventMask event.PcieWake))) m
+-- "Pin active while asleep and not disabled wakes" (PCIEXP_WAKE_DIS, its partner in the enables)
+abbrev pub pinWakes : Machine → Bool → Bool
+pinWakes m active = active && (isSleeping (m .state) && not (hasBit (m .«pm1_en») pciexpWakeBit))
+
+-- ".. wakes and sets the bit"; else "a pin step changes the level only", and "making the pin inactive clears nothing"
+unfoldable pub pinOf : Machine → Bool → Machine
+pinOf m active =
+    cond (pinWakes m active)
+    (woken (eventSource event.PinActive) (raised (withWakePin m active) pciexpWakeBit))
+    (withWakePin m active)
 
 -- ---- general events
 
@@ -199,7 +206,7 @@ abbrev pub doneBy : Machine → StatusBit → EventKind → Machine
 doneBy m bit kind.press = pressOf m
 doneBy m bit kind.release = releaseOf m
 doneBy m bit kind.signal = signalOf m bit
-doneBy m bit kind.pcieWake = pcieWakeOf m
+doneBy m bit (kind.pin active) = pinOf m active
 doneBy m bit kind.notice = raised m (pm1Mask bit)
 doneBy m bit (kind.general k) = generalOf m k
 doneBy m bit (kind.ticks n) = tickedBy n m
@@ -212,7 +219,7 @@ abbrev pub valueBy : Machine → EventKind → ℕ
 valueBy m kind.press = 0
 valueBy m kind.release = 0
 valueBy m kind.signal = 0
-valueBy m kind.pcieWake = 0
+valueBy m (kind.pin active) = 0
 valueBy m kind.notice = 0
 valueBy m (kind.general k) = 0
 valueBy m (kind.ticks n) = turnsBy n m

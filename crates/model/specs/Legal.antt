@@ -1,4 +1,4 @@
--- When a machine is legal: the list of request W2, document 02, which the comments quote, one test a clause in the list's order, then request W7's
+-- When a machine is legal: the list of request W2, document 02, which the comments quote, one test a clause in the list's order, W3's among them, then request W7's
 -- clause, and the types of the fields. That setting up gives legal machines and every step keeps them legal is `set-up-legal` and `legal-kept` of `proofs/Legal.antt`.
 -- A clause marked "one value for each meaning" picks one of the machines that one text could stand for.
 use mathlib.Core.Bool.{Bool, true, false, not, _&&_, _||_, Bool·beq}
@@ -14,7 +14,7 @@ use Rattle.platform.specs.Blocks.{present}
 use Rattle.platform.specs.Fitted.{statusCells, enableCells, wideTimer}
 use Rattle.platform.specs.Legal.{legalSettings}
 use Rattle.platform.specs.declared.settings.Settings.{Settings}
-use Rattle.machine.specs.Status.{pwrbtnBit}
+use Rattle.machine.specs.Status.{pwrbtnBit, pciexpWakeBit}
 use Rattle.registers.specs.Registers.{hasPm1bCnt, gpeHalf, gpeSts, gpeEn}
 use Rattle.machine.specs.Lines.{awake, gpeEvent}
 use Rattle.machine.specs.PowerOn.{gpeBytes}
@@ -68,6 +68,10 @@ holdLegal m = leb (m .hold) holdLimit && onlyIf (m .settings .«power_override»
 unfoldable pub buttonLegal : Machine → Bool
 buttonLegal m = onlyIf (m .button) (fits (m .settings) pwrbtnBit)
 
+-- request W3: "active only where fitted"
+unfoldable pub wakePinLegal : Machine → Bool
+wakePinLegal m = onlyIf (m .«wake_pin») (fits (m .settings) pciexpWakeBit)
+
 -- "no command, and SCI_EN set, without SMI_CMD"
 unfoldable pub commandLegal : Machine → Bool
 commandLegal m = onlyIf (eqb (m .settings .«smi_cmd») 0) (not (m .«command_waits») && m .«sci_en»)
@@ -92,7 +96,7 @@ slpTypsLegal m = ltb (m .«slp_typ_a») 8 && ltb (m .«slp_typ_b») 8
 unfoldable pub gpePendingLegal : Machine → Bool
 gpePendingLegal m = Bool·beq (m .«gpe_pending») (gpeEvent m)
 
--- W2's list: "settings pass rules 5 to 12", and the clauses above; the last is W7's
+-- W2's list: "settings pass rules 5 to 12", and the clauses above; the wake pin's is W3's, the last W7's
 unfoldable pub listed : Machine → Bool
 listed m =
     legalSettings (m .settings) &&
@@ -105,6 +109,7 @@ listed m =
     counterLegal m &&
     holdLegal m &&
     buttonLegal m &&
+    wakePinLegal m &&
     commandLegal m &&
     armedLegal m &&
     slpTypBLegal m &&

@@ -10,3 +10,4 @@ pub mod Raises
 pub mod Legal
 pub mod Turns
 pub mod Effect
+pub mod Pin

@@ -7,9 +7,9 @@ use lib.Dec.{eqb}
 use Rattle.platform.specs.declared.settings.Settings.{Settings}
 use Rattle.machine.specs.declared.Machine.{Machine}
 use Rattle.model.specs.Control.{completes, namedState}
-use Rattle.machine.specs.Status.{pwrbtnBit, wakBit}
+use Rattle.machine.specs.Status.{pwrbtnBit, pciexpWakeBit, wakBit}
 use Rattle.registers.specs.Registers.{inStatus, onesIn, inGpeStatus}
-use Rattle.model.specs.Events.{StatusBit, pm1, gpe, eventBit, pm1Mask, eventMask, inS5, signalWakes, pcieWakes, inGpe0, numberIn, generalEnabled, clockAfter, tmrRaised}
+use Rattle.model.specs.Events.{StatusBit, pm1, gpe, eventBit, pm1Mask, eventMask, inS5, signalWakes, pinWakes, inGpe0, numberIn, generalEnabled, clockAfter, tmrRaised}
 use Rattle.model.specs.EventKinds.{EventKind, eventKind}
 use Rattle.model.specs.EventKinds as kind
 use Rattle.machine.specs.Lines.{awake}
@@ -54,9 +54,9 @@ pressChange m = record { cleared = bitsIf (inS5 m) (2 ^ 16 - 1); raised = bitOr 
 unfoldable pub signalChange : Machine → ℕ → Change
 signalChange m bit = raising (bitsIf (not (inS5 m)) (bitOr bit (wakIf m (signalWakes m bit))))
 
--- "PCIe wake if its disable is clear, and only then is its bit set"
-unfoldable pub pcieWakeChange : Machine → Change
-pcieWakeChange m = raising (bitsIf (pcieWakes m) (bitOr (eventMask event.PcieWake) wakBit))
+-- request W3: "Pin active while asleep and not disabled wakes and sets the bit."
+unfoldable pub pinChange : Machine → Bool → Change
+pinChange m active = raising (bitsIf (pinWakes m active) (bitOr pciexpWakeBit wakBit))
 
 -- "in S0 only: .. TMR, if fitted, is set when its top bit changes", at one of the ticks that ran; the override "clears PWRBTN"
 unfoldable pub ticksChange : Machine → ℕ → Change
@@ -71,7 +71,7 @@ abbrev pub changeBy : Machine → StatusBit → EventKind → Change
 changeBy m bit kind.press = pressChange m
 changeBy m bit kind.release = unchanged
 changeBy m bit kind.signal = signalChange m (pm1Mask bit)
-changeBy m bit kind.pcieWake = pcieWakeChange m
+changeBy m bit (kind.pin active) = pinChange m active
 changeBy m bit kind.notice = raising (pm1Mask bit)
 changeBy m bit (kind.general k) = raising (wakIf m (generalEnabled m k))
 changeBy m bit (kind.ticks n) = ticksChange m n
@@ -132,7 +132,7 @@ abbrev pub isPress : EventKind → Bool
 isPress kind.press = true
 isPress kind.release = false
 isPress kind.signal = false
-isPress kind.pcieWake = false
+isPress (kind.pin active) = false
 isPress kind.notice = false
 isPress (kind.general k) = false
 isPress (kind.ticks n) = false

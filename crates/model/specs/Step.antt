@@ -1,5 +1,5 @@
 -- One step: the table of refusals, the value, and the machine after it.
-use mathlib.Core.Bool.{Bool, not, cond, _||_}
+use mathlib.Core.Bool.{Bool, not, cond, _||_, Bool·beq}
 use mathlib.Core.List.{List, [], _∷_}
 use Prim.Native.Nat.{ℕ}
 use lib.Dec.{eqb}
@@ -67,16 +67,17 @@ writeRefusals m r width offset written =
     answer.DataTooWide if dataTooWide width written ∷
     registerRefusals m r width offset written
 
--- 28: "what a press, release, sleep press, alarm or PCIe wake belongs to is not fitted"
+-- 28: "what a press, release, sleep press, alarm or PCIe wake belongs to is not fitted"; request W3: "28 where not fitted, then 30 when the pin is
+-- already at that level"
 abbrev pub unfitted : Machine → StatusBit → Refusal
 unfitted m bit = answer.NotFitted if not (fits (m .settings) (pm1Mask bit))
 
 -- 28, then 30: "press while down, release while up"; 20: "bus-master, unlock .. outside S0"; 29: "a general event number belongs to no block"
 abbrev pub refusalsBy : Machine → StatusBit → EventKind → List Refusal
-refusalsBy m bit kind.press = unfitted m bit ∷ answer.ButtonAlready if m .button ∷ []
-refusalsBy m bit kind.release = unfitted m bit ∷ answer.ButtonAlready if not (m .button) ∷ []
+refusalsBy m bit kind.press = unfitted m bit ∷ answer.AlreadySo if m .button ∷ []
+refusalsBy m bit kind.release = unfitted m bit ∷ answer.AlreadySo if not (m .button) ∷ []
 refusalsBy m bit kind.signal = unfitted m bit ∷ []
-refusalsBy m bit kind.pcieWake = unfitted m bit ∷ []
+refusalsBy m bit (kind.pin active) = unfitted m bit ∷ answer.AlreadySo if Bool·beq (m .«wake_pin») active ∷ []
 refusalsBy m bit kind.notice = answer.Asleep if not (awake m) ∷ []
 refusalsBy m bit (kind.general k) = answer.NoSuchEvent if not (inGpe0 (m .settings) k || inGpe1 (m .settings) k) ∷ []
 refusalsBy m bit (kind.ticks n) = []

@@ -30,7 +30,9 @@ pub enum Event {
     SleepPress,
     // of the real-time clock
     Alarm,
-    PcieWake,
+    // the wake pin becomes active, or inactive
+    PinActive,
+    PinInactive,
     BusMaster,
     // the global lock is released
     Unlock,
@@ -64,7 +66,7 @@ pub enum Answer {
     NoSleepState,
     NotFitted,
     NoSuchEvent,
-    ButtonAlready,
+    AlreadySo,
     NoCommand,
 }
 
@@ -115,7 +117,7 @@ pub fn number(a: Answer) -> u8
         Answer::NoSleepState => 27,
         Answer::NotFitted => 28,
         Answer::NoSuchEvent => 29,
-        Answer::ButtonAlready => 30,
+        Answer::AlreadySo => 30,
         Answer::NoCommand => 31,
     }
 }
@@ -135,7 +137,7 @@ pub fn value(a: Answer) -> u32
         Answer::NoSleepState => 0,
         Answer::NotFitted => 0,
         Answer::NoSuchEvent => 0,
-        Answer::ButtonAlready => 0,
+        Answer::AlreadySo => 0,
         Answer::NoCommand => 0,
     }
 }

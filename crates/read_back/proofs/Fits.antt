@@ -3,13 +3,13 @@
 -- Assumes nothing.
 use mathlib.Core.Bool.{Bool, true, false, _&&_, true≢false}
 use mathlib.Core.List.{List, [], _∷_}
-use mathlib.Core.Path.{_≡_}
+use mathlib.Core.Path.{_≡_, refl, sym, _∙_}
 use Prim.Native.Nat.{ℕ, _*_, _%_, _^_, _<_}
 use Prim.Native.String.{String}
 use native.Mathlib.Nat.{mod-lt, lt-of-lt-of-le}
 use native.Mathlib.Omega.{arith}
 use lib.Bits.{bitAnd, and-comm, or-lt}
-use lib.Dec.{lit<, lit≤}
+use lib.Dec.{leb, lit<, lit≤}
 use lib.Pow.{pow-lt}
 use Rattle.bits.proofs.Writes.{masked-lt}
 use Rattle.acpi.specs.Bits.{«SCI_EN», «BM_RLD»}
@@ -24,7 +24,7 @@ use Rattle.machine.specs.declared.Machine.{Machine}
 use Rattle.registers.specs.Registers.{bitWhen, homesIn, controlIn, controlRegister, slpTyp}
 use Rattle.model.specs.Legal.{legal}
 use Rattle.model.proofs.Legal.{Legal, legal-means}
-use Rattle.records.specs.Rows.{Row, row, hex, flag, command, rows}
+use Rattle.records.specs.Rows.{Row, added, row, hex, flag, command, rows}
 use Rattle.records.specs.Records.{AllFit}
 use Rattle.records.proofs.ReadBack.{hex-form, flag-form, command-form, no-command-form}
 use Rattle.values.specs.Values.{flagValue, pairValue, pairOf, commandValue, valuesOf}
@@ -39,9 +39,12 @@ module _ (name : String) (w v : ℕ) (rs : List Row) (vs : List ℕ) where
   unfolding AllFit
   hex-row h rest = (λ i. (h, hex-form v), λ n. absurd (true≢false n), rest)
 
-flag-row : (name : String) (b : Bool) (rs : List Row) (vs : List ℕ) → AllFit newest rs vs → AllFit newest (row name flag 1 ∷ rs) (flagValue b ∷ vs)
+-- a flag that the newest edition has, whichever added it
+flag-row : (name : String) (since : ℕ) (b : Bool) (rs : List Row) (vs : List ℕ) → leb since newest ≡ true → AllFit newest rs vs
+    → AllFit newest (added name flag 1 since 0 ∷ rs) (flagValue b ∷ vs)
 unfolding AllFit
-flag-row name b rs vs rest = (λ i. (go b, flag-form (flagValue b) (below b)), λ n. absurd (true≢false n), rest)
+flag-row name since b rs vs there rest =
+    (λ i. (go b, flag-form (flagValue b) (below b)), λ n. absurd (true≢false (sym there ∙ n)), rest)
   where
     go : (t : Bool) → flagValue t < 16 ^ 1
     go true = lit< tt
@@ -124,7 +127,7 @@ module _ (m : Machine) (e : legal m ≡ true) where
       (hex-row "FLAGS" 8 _ _ _ (f .flags)
       (hex-row "EVENT_HOMES" 4 _ _ _ (event-homes-small s g f)
       (hex-row "CONTROL_HOMES" 4 _ _ _ (control-homes-small s g f)
-      (flag-row "OVERRIDE" (s .«power_override») _ _
+      (flag-row "OVERRIDE" 1 (s .«power_override») _ _ refl
       (hex-row "S0" 4 _ _ _ (pair-fits 0 (lit< tt))
       (hex-row "S1" 4 _ _ _ (pair-fits 1 (lit< tt))
       (hex-row "S2" 4 _ _ _ (pair-fits 2 (lit< tt))
@@ -140,9 +143,10 @@ module _ (m : Machine) (e : legal m ≡ true) where
       (hex-row "PM2_CNT" 2 _ _ _ (arb-fits (m .«arb_dis»))
       (hex-row "PM_TMR" 8 _ _ _ (counter-small m (l .counter))
       (hex-row "HOLD" 8 _ _ _ (hold-small m (l .hold))
-      (flag-row "BUTTON" (m .button) _ _
+      (flag-row "BUTTON" 1 (m .button) _ _ refl
       (command-row (m .«command_waits») (m .command) _ _ (command .0)
-      (flag-row "RELEASE" (m .«gbl_rls») _ _
-      (flag-row "ARMED" (m .armed) _ _
+      (flag-row "RELEASE" 1 (m .«gbl_rls») _ _ refl
+      (flag-row "ARMED" 1 (m .armed) _ _ refl
       (hex-row "STATE" 1 _ _ _ (lt-of-lt-of-le (state-small s (m .state) (f .six) (l .state)) (lit≤ tt))
-      no-row)))))))))))))))))))))))))))))))))))))))))
+      (flag-row "WAKE_PIN" 2 (m .«wake_pin») _ _ refl
+      no-row))))))))))))))))))))))))))))))))))))))))))

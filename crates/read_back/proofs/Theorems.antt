@@ -2,8 +2,9 @@
 use mathlib.Core.Bool.{Bool, true, false, not, cond, _&&_, and-true, false≢true}
 use mathlib.Core.List.{List}
 use mathlib.Core.Path.{_≡_, refl, sym, _∙_, ap}
-use Prim.Native.Nat.{ℕ, _+_}
-use lib.Dec.{eqb}
+use Prim.Native.Nat.{ℕ, _+_, _%_}
+use lib.Dec.{eqb, lit<}
+use lib.ListN.{drop}
 use Rattle.lists.specs.Any.{firstAt}
 use Rattle.lists.proofs.Tests.{and-left, and-right}
 use Rattle.text.specs.Numbers.{digits, digitCount, countWithin, glyph}
@@ -11,6 +12,9 @@ use Rattle.text.specs.Parts.{sameText}
 use Rattle.text.proofs.Equal.{same-equal, same-self}
 use Rattle.runs.specs.Items.{after as afterAll, Throughout}
 use Rattle.records.specs.Ascii.{ascii}
+use Rattle.records.specs.Rows.{rows}
+use Rattle.records.proofs.RowFacts.{noRow}
+use Rattle.records.proofs.ReadBack.{added-reads}
 use Rattle.machine.specs.PowerOn.{allZero}
 use Rattle.machine.specs.declared.Machine.{Machine}
 use Rattle.model.specs.Legal.{listed, fitsTypes, legal}
@@ -31,7 +35,7 @@ use Rattle.split_access.specs.WriteBack.{WritesBackFrom}
 use Rattle.split_access.proofs.ByWalk.{by-walk-from-legal}
 use Rattle.split_access.proofs.WakesAtOnce.{wakes-at-once-from-legal}
 use Rattle.split_access.proofs.Legal.{legal-after, all-legal, demand-3-from-legal, write-back-from-legal}
-use Rattle.saved.specs.Text.{newest, Parts, parts, textOf, partsOf, savedText}
+use Rattle.saved.specs.Text.{newest, Parts, parts, textOf, recordsAt, partsOf, savedText}
 use Rattle.saved.specs.Reading.{editionUpTo, editionOf, partsIn, machineOf, machineIn, wellFormed, legalText, malformedLine, textAnswer, legalAnswer, isDone, firstRefusal, readAs, readParts, readIn, readOf}
 use Rattle.saved.specs.declared.ReadBack.{ReadBack}
 use Rattle.saved.specs.declared.ReadAnswer.the-variants as answer
@@ -128,18 +132,22 @@ module _ (text : List ℕ) (e : readOf text .answer ≡ answer.Done) where
 
 -- ---- the round trips
 
+-- an accepted text of any edition is what its machine prints in that edition: each record that the text has reads as it stands
+pub reads-as-it-stands : (text : List ℕ) → readOf text .answer ≡ answer.Done → textOf (editionOf newest text) (partsOf (readOf text .machine)) ≡ text
+reads-as-it-stands text e =
+    let k = editionOf newest text in
+    let p = partsIn k text in
+    ap (λ (m : Machine). textOf k (parts (valuesOf (readOf text .machine)) (m .«gpe0_sts») (m .«gpe0_en») (m .«gpe1_sts») (m .«gpe1_en»))) (accepted-machine text e)
+    ∙ ap (λ (vs : List ℕ). textOf k (parts vs (p .gpe0-sts) (p .gpe0-en) (p .gpe1-sts) (p .gpe1-en))) (accepted-values text e)
+    ∙ sym (accepted-text text e)
+
 -- "reading and writing back any accepted text of the newest edition gives the same text"
 pub read-then-write : (text : List ℕ) → readOf text .answer ≡ answer.Done → editionOf newest text ≡ newest → savedText (readOf text .machine) ≡ text
 unfolding savedText
-read-then-write text e n =
-    let p = partsIn (editionOf newest text) text in
-    ap (λ (m : Machine). textOf newest (parts (valuesOf (readOf text .machine)) (m .«gpe0_sts») (m .«gpe0_en») (m .«gpe1_sts») (m .«gpe1_en»))) (accepted-machine text e)
-    ∙ ap (λ (vs : List ℕ). textOf newest (parts vs (p .gpe0-sts) (p .gpe0-en) (p .gpe1-sts) (p .gpe1-en))) (accepted-values text e)
-    ∙ ap (λ (k : ℕ). textOf k p) (sym n)
-    ∙ sym (accepted-text text e)
+read-then-write text e n = ap (λ (k : ℕ). textOf k (partsOf (readOf text .machine))) (sym n) ∙ reads-as-it-stands text e
 
 -- the first line that is written names the newest edition
-newest-named : (m : Machine) → editionOf newest (savedText m) ≡ newest
+pub newest-named : (m : Machine) → editionOf newest (savedText m) ≡ newest
 unfolding savedText ascii digits digitCount countWithin glyph editionUpTo sameText firstAt
 newest-named m = refl
 
@@ -171,6 +179,19 @@ write-then-read m e =
     ∙ newest-read (savedText m)
     ∙ ap (readParts newest (savedText m)) (parts-back m e)
     ∙ all-well (savedText m) (textOf newest (partsOf m)) (valuesOf m) m (machineOf (partsOf m)) (written-same m) (machine-back m e) (legal-judged m e) (same-self (valuesOf m))
+
+-- "an older text reads with the added record at its power-on setting": one of the first edition, with the wake pin inactive
+first-edition-inactive : (text : List ℕ) → machineIn 1 text .«wake_pin» ≡ false
+unfolding rows
+first-edition-inactive text = ap (λ (v : ℕ). eqb (v % 2) 1) (added-reads 1 42 (drop (recordsAt 1) text) noRow (lit< tt) refl)
+
+pub older-reads-inactive : (text : List ℕ) → readOf text .answer ≡ answer.Done → editionOf newest text ≡ 1 → readOf text .machine .«wake_pin» ≡ false
+older-reads-inactive text e n =
+    ap (λ (m : Machine). m .«wake_pin») (accepted-machine text e ∙ ap (λ (k : ℕ). machineIn k text) n) ∙ first-edition-inactive text
+
+-- "written again it is a text of the newest edition", and of the same machine
+pub written-again : FromRead (λ m. (editionOf newest (savedText m) ≡ newest) × (readOf (savedText m) ≡ record { answer = answer.Done; machine = m }))
+written-again text e = (newest-named (readOf text .machine), write-then-read (readOf text .machine) (accepted-legal text e))
 
 -- no two legal machines have one text
 pub one-text-each : (m n : Machine) → legal m ≡ true → legal n ≡ true → savedText m ≡ savedText n → m ≡ n

@@ -48,6 +48,11 @@ pub first-edition-length : recordsLength 1 rows ≡ 669
 unfolding rows ascii recordsLength
 first-edition-length = refl
 
+-- and the line of WAKE_PIN: eight letters, a tab, a digit and LF
+pub second-edition-length : recordsLength 2 rows ≡ 680
+unfolding rows ascii recordsLength
+second-edition-length = refl
+
 -- what an index past the table would read
 abbrev pub noRow : Row
 noRow = record { name = []; form = 0; width = 0; since = 0; initial = 0 }

@@ -34,7 +34,7 @@ row name form width = added name form width 1 0
 
 -- how many rows there are
 abbrev pub rowCount : ℕ
-rowCount = 42
+rowCount = 43
 
 unfoldable pub rows : List Row
 rows =
@@ -80,4 +80,5 @@ rows =
     row "RELEASE" flag 1 ∷
     row "ARMED" flag 1 ∷
     row "STATE" hex 1 ∷
+    added "WAKE_PIN" flag 1 2 0 ∷
     []

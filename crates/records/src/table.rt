@@ -16,7 +16,7 @@ pub const FLAG: u8 = 1;
 pub const COMMAND: u8 = 2;
 
 // How many records have a number.
-pub const RECORDS: usize = 42;
+pub const RECORDS: usize = 43;
 
 // A line's length, and where its columns stand past the name.
 pub(crate) const LINE: usize = 50;
@@ -76,6 +76,7 @@ const TABLE: [u8; LINE * RECORDS] = *b"\
     RELEASE           7 flag     1  1 0000000000000000\
     ARMED             5 flag     1  1 0000000000000000\
     STATE             5 hex      1  1 0000000000000000\
+    WAKE_PIN          8 flag     1  2 0000000000000000\
 ";
 
 // The table, made once for a whole text.

@@ -11,7 +11,7 @@ use Rattle.bits.specs.Writes.{kept, clearedBy, takenBy, lane, byteAt}
 use Rattle.platform.specs.Blocks.{present}
 use Rattle.platform.specs.Fitted.{statusCells, enableCells}
 use Rattle.platform.specs.declared.settings.Settings.{Settings}
-use Rattle.machine.specs.Status.{hasBit}
+use Rattle.machine.specs.Status.{pciexpWakeBit, hasBit}
 use Rattle.machine.specs.declared.Machine.{Machine}
 
 -- the bits whose home is the block. A bit's home, document 01's word, is the block where it is read and written, "one bit set meaning block B"
@@ -66,9 +66,9 @@ enableRegister m b = bitAnd (m .«pm1_en») (enableIn (m .settings) b)
 abbrev pub eventRegister : Machine → Bool → ℕ → ℕ
 eventRegister m b offset = cond (inStatus offset) (statusRegister m b) (cond (inEnable offset) (enableRegister m b) 0)
 
--- the status bits that a write to the block may clear
+-- the status bits that a write to the block may clear: bit 14's "Clearing works only with the pin inactive" (request W3)
 abbrev pub clearable : Machine → Bool → ℕ
-clearable m b = statusIn (m .settings) b
+clearable m b = kept 16 (statusIn (m .settings) b) (cond (m .«wake_pin») pciexpWakeBit 0)
 
 -- the ones written to such bits
 abbrev pub onesIn : Machine → Bool → ℕ → ℕ → ℕ → ℕ

@@ -7,6 +7,7 @@ use bits::pick8;
 use bits::pick16;
 use bits::pick32;
 use machine::GPE_BYTES;
+use machine::PCIEXP_WAKE;
 use machine::Scalars;
 use machine::has_bit;
 use platform::Settings;
@@ -15,7 +16,8 @@ ghost use Prim.Native.Nat.{_-_, _%_, _^_};
 ghost use mathlib.Core.Bool.{cond};
 ghost use lib.Bits.{bitAnd};
 ghost use lib.ListN.{getD};
-ghost use Rattle.bits.specs.Writes.{clearedBy, takenBy};
+ghost use Rattle.bits.specs.Writes.{kept, clearedBy, takenBy};
+ghost use Rattle.machine.specs.Status.{pciexpWakeBit};
 ghost use Rattle.machine.specs.PowerOn.{noSettings};
 ghost use Rattle.machine.specs.Scalars.{bare};
 ghost use Rattle.registers.specs.Registers.{homesIn, statusIn, enableIn, shown, covered, placed, controlIn, hasPm1bCnt, slpTyp, controlRegister, coversLow, coversHigh, writtenBit, gpeHalf, inGpeStatus};
@@ -87,11 +89,11 @@ pub fn enable_register(s: Settings, pm1_en: u16, b: bool) -> u16
     pm1_en & enable_in(s, b)
 }
 
-// The status bits that a write to the block may clear.
-pub fn clearable(s: Settings, b: bool) -> u16
-    ensures { λ r. ⌜ r ≡ statusIn s b ⌝ }
+// The status bits that a write to the block may clear: bit 14 only with the wake pin inactive.
+pub fn clearable(s: Settings, wake_pin: bool, b: bool) -> u16
+    ensures { λ r. ⌜ r ≡ kept 16 (statusIn s b) (cond «wake_pin» pciexpWakeBit 0) ⌝ }
 {
-    status_in(s, b)
+    status_in(s, b) & !pick16(wake_pin, PCIEXP_WAKE, 0)
 }
 
 // Writing one to a status bit clears it; writing zero keeps it. At the status half's first byte, and at its second.

@@ -14,7 +14,7 @@ use Rattle.values.specs.Agree.{agreeing}
 use Rattle.values.specs.Values.{valuesOf}
 use Rattle.values.proofs.Agreeing.{same-exactly}
 use Rattle.records.specs.Ascii.{ascii}
-use Rattle.records.specs.Rows.{rows}
+use Rattle.records.specs.Rows.{rowCount, rows}
 use Rattle.records.specs.Records.{valuesIn}
 use Rattle.records.specs.Bytes.{bytesIn}
 use Rattle.saved.specs.Text.{Parts, parts, own0, own1, textOf, recordsAt, gpeAt}
@@ -24,8 +24,8 @@ use Rattle.saved.specs.declared.ReadAnswer.{ReadAnswer}
 use Rattle.saved.specs.declared.ReadAnswer.the-variants as answer
 
 -- the answer on a legal machine, by the place of the first value that is not the machine's
-pub legal-answer : (m : Machine) (vs : List ℕ) → length vs ≡ 42 → legalityOf m ≡ legality.Legal
-    → (stray : ℕ) → stray ≡ agreeing (valuesOf m) vs → (r : ReadAnswer) → r ≡ cond (eqb stray 42) answer.Done (answer.Stray (stray + 2))
+pub legal-answer : (m : Machine) (vs : List ℕ) → length vs ≡ rowCount → legalityOf m ≡ legality.Legal
+    → (stray : ℕ) → stray ≡ agreeing (valuesOf m) vs → (r : ReadAnswer) → r ≡ cond (eqb stray rowCount) answer.Done (answer.Stray (stray + 2))
     → r ≡ legalAnswer m vs
 legal-answer m vs long legal stray e r f =
     f ∙ rw (e, legal, same-exactly (valuesOf m) vs (sym long), long) refl

@@ -10,7 +10,7 @@ ghost use mathlib.Core.Path.{_≡_};
 ghost use Rattle.saved.specs.Answer.{writtenNumber, writtenValue, readNumber, readValue};
 
 // The edition that writing gives.
-pub const NEWEST: u64 = 1;
+pub const NEWEST: u64 = 2;
 
 // The text is written, with its length; or it is longer than the buffer.
 pub enum WriteAnswer {

@@ -23,6 +23,7 @@ ghost use mathlib.Core.Path.{_≡_};
 ghost use mathlib.Core.Bool.{cond};
 ghost use Prim.Native.Nat.{_+_, _≤_};
 ghost use lib.Dec.{eqb};
+ghost use Rattle.records.specs.Rows.{rowCount};
 ghost use Rattle.values.specs.Agree.{agreeing};
 ghost use Rattle.saved.specs.Text.{newest, own0 as own0Of, own1 as own1Of, parts, textOf, gpeAt};
 ghost use Rattle.saved.specs.declared.ReadAnswer.the-variants as answer;
@@ -37,7 +38,11 @@ const ROOM: usize = 1024;
 fn edition_of(line: &[u8]) -> u64
     ensures { λ r. ⌜ r ≡ editionUpTo newest (now (line .entry)) ⌝ }
 {
-    if same(line, b"edition\t1") { 1 } else { 0 }
+    if same(line, b"edition\t2") {
+        2
+    } else {
+        if same(line, b"edition\t1") { 1 } else { 0 }
+    }
 }
 
 // How many bytes stand alike at the start of both texts.
@@ -67,8 +72,8 @@ fn malformed_line(text: &[u8], printed: &[u8]) -> usize
 
 // By the place of the first value that is not the machine's. Record 0 stands in line 2.
 fn judge_values(stray: usize) -> ReadAnswer
-    requires { ⌜ stray ≤ 42 ⌝ }
-    ensures { λ r. ⌜ r ≡ cond (eqb stray 42) answer.Done (answer.Stray (stray + 2)) ⌝ }
+    requires { ⌜ stray ≤ rowCount ⌝ }
+    ensures { λ r. ⌜ r ≡ cond (eqb stray rowCount) answer.Done (answer.Stray (stray + 2)) ⌝ }
 {
     if stray == VALUES {
         ReadAnswer::Done

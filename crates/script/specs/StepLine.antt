@@ -10,7 +10,7 @@ use Rattle.model.specs.declared.Event.the-variants as event
 use Rattle.model.specs.declared.Step.the-variants as step
 use Rattle.text.specs.Numbers.{isNumber}
 use Rattle.script.specs.Fields.{fieldAt, isHexAt, hexAt, isBelow, hexBelow}
-use Rattle.script.specs.Words.{rWord, wWord, pressWord, releaseWord, sleepWord, alarmWord, wakeWord, masterWord, unlockWord, eventWord, tickWord, takeWord, dropWord}
+use Rattle.script.specs.Words.{rWord, wWord, pressWord, releaseWord, sleepWord, alarmWord, pinWord, masterWord, unlockWord, eventWord, tickWord, takeWord, dropWord, zeroWord, oneWord}
 use Rattle.script.specs.declared.step_line.Line.{Line}
 use Rattle.script.specs.declared.step_line.Line.the-variants as line
 
@@ -21,12 +21,18 @@ loneLine word =
     (cond (sameText word releaseWord) (line.Step (step.Event event.Release))
     (cond (sameText word sleepWord) (line.Step (step.Event event.SleepPress))
     (cond (sameText word alarmWord) (line.Step (step.Event event.Alarm))
-    (cond (sameText word wakeWord) (line.Step (step.Event event.PcieWake))
     (cond (sameText word masterWord) (line.Step (step.Event event.BusMaster))
     (cond (sameText word unlockWord) (line.Step (step.Event event.Unlock))
     (cond (sameText word takeWord) (line.Step step.Take)
     (cond (sameText word dropWord) (line.Step step.Drop)
-    line.Unread))))))))
+    line.Unread)))))))
+
+-- "pin 1", "pin 0": exactly one digit
+unfoldable pub pinLine : List ℕ → Line
+pinLine digit =
+    cond (sameText digit oneWord) (line.Step (step.Event event.PinActive))
+    (cond (sameText digit zeroWord) (line.Step (step.Event event.PinInactive))
+    line.Unread)
 
 -- "event N", "tick N": N below 2^32
 unfoldable pub countLine : List ℕ → Line
@@ -56,7 +62,7 @@ writeLine l = cond (sameText (fieldAt l 0) wWord && (accessReads (fieldAt l 1) (
 unfoldable pub lineOf : List ℕ → Line
 lineOf l =
     cond (eqb (length (fieldsOf l)) 1) (loneLine (fieldAt l 0))
-    (cond (eqb (length (fieldsOf l)) 2) (countLine l)
+    (cond (eqb (length (fieldsOf l)) 2) (cond (sameText (fieldAt l 0) pinWord) (pinLine (fieldAt l 1)) (countLine l))
     (cond (eqb (length (fieldsOf l)) 3) (readLine l)
     (cond (eqb (length (fieldsOf l)) 4) (writeLine l)
     line.Unread)))

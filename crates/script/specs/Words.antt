@@ -20,8 +20,8 @@ sleepWord = 115 ∷ 108 ∷ 101 ∷ 101 ∷ 112 ∷ []
 abbrev pub alarmWord : List ℕ
 alarmWord = 97 ∷ 108 ∷ 97 ∷ 114 ∷ 109 ∷ []
 
-abbrev pub wakeWord : List ℕ
-wakeWord = 119 ∷ 97 ∷ 107 ∷ 101 ∷ []
+abbrev pub pinWord : List ℕ
+pinWord = 112 ∷ 105 ∷ 110 ∷ []
 
 abbrev pub masterWord : List ℕ
 masterWord = 109 ∷ 97 ∷ 115 ∷ 116 ∷ 101 ∷ 114 ∷ []
@@ -48,7 +48,7 @@ platformWord = 112 ∷ 108 ∷ 97 ∷ 116 ∷ 102 ∷ 111 ∷ 114 ∷ 109 ∷ []
 abbrev pub absentWord : List ℕ
 absentWord = 45 ∷ []
 
--- the override, not fitted and fitted
+-- the override, not fitted and fitted; the wake pin, inactive and active
 abbrev pub zeroWord : List ℕ
 zeroWord = 48 ∷ []
 

@@ -10,7 +10,7 @@ use text::hex_value;
 use text::is_hex;
 use text::same;
 ghost use mathlib.Core.Path.{_≡_};
-ghost use Rattle.script.specs.StepLine.{loneLine, countLine, accessReads, readLine, writeLine, lineOf};
+ghost use Rattle.script.specs.StepLine.{loneLine, pinLine, countLine, accessReads, readLine, writeLine, lineOf};
 
 // What a line says: a step, or nothing that reads.
 pub enum Line {
@@ -33,9 +33,6 @@ fn lone_line(word: &[u8]) -> Line
     if same(word, b"alarm") {
         return Line::Step(Step::Event(Event::Alarm));
     }
-    if same(word, b"wake") {
-        return Line::Step(Step::Event(Event::PcieWake));
-    }
     if same(word, b"master") {
         return Line::Step(Step::Event(Event::BusMaster));
     }
@@ -47,6 +44,19 @@ fn lone_line(word: &[u8]) -> Line
     }
     if same(word, b"drop") {
         return Line::Step(Step::Drop);
+    }
+    Line::Unread
+}
+
+// "pin 1", "pin 0".
+fn pin_line(digit: &[u8]) -> Line
+    ensures { λ r. ⌜ r ≡ pinLine (now (digit .entry)) ⌝ }
+{
+    if same(digit, b"1") {
+        return Line::Step(Step::Event(Event::PinActive));
+    }
+    if same(digit, b"0") {
+        return Line::Step(Step::Event(Event::PinInactive));
     }
     Line::Unread
 }
@@ -122,6 +132,9 @@ pub fn line_of(line: &[u8]) -> Line
         return lone_line(field(line, 0));
     }
     if count == 2 {
+        if field_is(line, 0, b"pin") {
+            return pin_line(field(line, 1));
+        }
         return count_line(line);
     }
     if count == 3 {

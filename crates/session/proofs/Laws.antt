@@ -319,7 +319,7 @@ number-short reply.CommandWaits = omega arith
 number-short reply.NoSleepState = omega arith
 number-short reply.NotFitted = omega arith
 number-short reply.NoSuchEvent = omega arith
-number-short reply.ButtonAlready = omega arith
+number-short reply.AlreadySo = omega arith
 number-short reply.NoCommand = omega arith
 
 -- a larger number has no fewer digits

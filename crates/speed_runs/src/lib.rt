@@ -81,10 +81,16 @@ fn wide(x: u32) -> u64
     x as u64
 }
 
+fn wide16(x: u16) -> u64
+    ensures { λ r. ⌜ r ≡ x ⌝ }
+{
+    x as u64
+}
+
 // The sum, with the status cells and the counter at the end.
 pub fn sum(r: Run) -> u64
     ensures { λ result. ⌜ result ≡ sumOf r ⌝ }
 {
     let m = r.machine;
-    wrapping_add_u64(wrapping_add_u64(r.sum, m.pm1_sts as u64), wide(m.counter))
+    wrapping_add_u64(wrapping_add_u64(r.sum, wide16(m.pm1_sts)), wide(m.counter))
 }

@@ -1,7 +1,7 @@
--- What an event does to an awake machine that it leaves awake: it raises status bits, and changes the button, hold, the counter, the
--- general status bytes and whether one is pending, each by what stands there, in the general enables and in the settings alone. By the
--- event's bit and kind. Assumes nothing.
-use mathlib.Core.Bool.{Bool, true, false, not, cond, _&&_, _||_}
+-- What an event does to an awake machine that it leaves awake: it raises status bits, and changes the button, hold, the counter, the wake
+-- pin, the general status bytes and whether one is pending, each by what stands there, in the general enables and in the settings alone.
+-- By the event's bit and kind. Assumes nothing.
+use mathlib.Core.Bool.{Bool, true, false, not, cond, _&&_, _||_, Bool·beq}
 use mathlib.Core.List.{List}
 use mathlib.Core.Logic.{_⊎_, inl, inr, ⊎-elim}
 use mathlib.Core.Path.{_≡_, refl, sym, _∙_, ap}
@@ -17,8 +17,8 @@ use Rattle.platform.specs.declared.settings.Settings.{Settings}
 use Rattle.machine.specs.declared.Machine.{Machine}
 use Rattle.model.specs.Answer.{firstApplying}
 use Rattle.machine.specs.Status.{tmrBit}
-use Rattle.model.specs.Events.{StatusBit, pm1, gpe, eventBit, pm1Mask, fits, raised, pressOf, signalOf, pcieWakeOf, generalOf, generalRaised, generalEnabled, inGpe0, inGpe1, withBit, isEnabled, numberIn, inS5, tmrRaised, timed, tickedBy, doneBy, eventOf}
-use Rattle.machine.specs.Fields.{withGpe, withButton, withTime}
+use Rattle.model.specs.Events.{StatusBit, pm1, gpe, eventBit, pm1Mask, fits, raised, pressOf, signalOf, pinOf, generalOf, generalRaised, generalEnabled, inGpe0, inGpe1, withBit, isEnabled, numberIn, inS5, tmrRaised, timed, tickedBy, doneBy, eventOf}
+use Rattle.machine.specs.Fields.{withGpe, withButton, withTime, withWakePin}
 use Rattle.machine.specs.Lines.{awake}
 use Rattle.machine.specs.Sleep.{isSleeping}
 use Rattle.model.specs.Raises.{bitsIf}
@@ -34,55 +34,58 @@ use Rattle.model.specs.declared.Answer.the-variants as answer
 use Rattle.model.specs.declared.Event.{Event}
 use Rattle.model.specs.declared.Step.the-variants as step
 
--- an event's effect, as a function of the button, hold and the counter, of the general status bytes, and of the general enables: whether it is pending
+-- an event's effect, as a function of the button, hold and the counter, of the wake pin, of the general status bytes, and of the general enables: whether it is pending
 pub record Effect : Type 0 where
-  pub answer : Bool → ℕ → ℕ → Answer
+  pub answer : Bool → ℕ → ℕ → Bool → Answer
   pub mask : Bool → ℕ → ℕ → ℕ
   pub button : Bool → Bool
   pub hold : Bool → ℕ → ℕ → ℕ
   pub counter : Bool → ℕ → ℕ → ℕ
   pub off : Bool → ℕ → ℕ → Bool
+  pub pin : Bool → Bool
   pub gpe0 : List ℕ → List ℕ
   pub gpe1 : List ℕ → List ℕ
   pub pending : List ℕ → List ℕ → Bool
 
-abbrev pub lived : Machine → ℕ → Bool → ℕ → ℕ → List ℕ → List ℕ → Bool → Machine
-lived m mask button hold counter gpe0 gpe1 pending =
-    withTime (withButton (withGpe (raised m mask) gpe0 (m .«gpe0_en») gpe1 (m .«gpe1_en») pending) button hold) counter hold
+abbrev pub lived : Machine → ℕ → Bool → ℕ → ℕ → Bool → List ℕ → List ℕ → Bool → Machine
+lived m mask button hold counter pin gpe0 gpe1 pending =
+    withWakePin (withTime (withButton (withGpe (raised m mask) gpe0 (m .«gpe0_en») gpe1 (m .«gpe1_en») pending) button hold) counter hold) pin
 
 -- the answer that goes with an effect, and the machine after it
 abbrev pub answered : Effect → Machine → Answer
-answered e m = e .answer (m .button) (m .hold) (m .counter)
+answered e m = e .answer (m .button) (m .hold) (m .counter) (m .«wake_pin»)
 
 abbrev pub affected : Effect → Machine → Machine
 affected e m =
     lived m (e .mask (m .button) (m .hold) (m .counter)) (e .button (m .button)) (e .hold (m .button) (m .hold) (m .counter))
-    (e .counter (m .button) (m .hold) (m .counter)) (e .gpe0 (m .«gpe0_sts»)) (e .gpe1 (m .«gpe1_sts»))
+    (e .counter (m .button) (m .hold) (m .counter)) (e .pin (m .«wake_pin»)) (e .gpe0 (m .«gpe0_sts»)) (e .gpe1 (m .«gpe1_sts»))
     (e .pending (m .«gpe0_en») (m .«gpe1_en») || m .«gpe_pending»)
 
 -- the ticks of a clock
 abbrev pub clockTicks : Settings → ℕ → Bool → ℕ → ℕ → Clock
 clockTicks s n b h c = clock.ticksOf (wideTimer s) b (s .«power_override») n (startOf c h)
 
--- the answer, whether the event's PM1 bit is set, and what becomes of the button, hold and the counter
+-- the answer, whether the event's PM1 bit is set, and what becomes of the button, hold, the counter and the pin
 pub record Live : Type 0 where
-  pub answer : Bool → ℕ → ℕ → Answer
+  pub answer : Bool → ℕ → ℕ → Bool → Answer
   pub sets : Bool → ℕ → ℕ → Bool
   pub button : Bool → Bool
   pub hold : Bool → ℕ → ℕ → ℕ
   pub counter : Bool → ℕ → ℕ → ℕ
   pub off : Bool → ℕ → ℕ → Bool
+  pub pin : Bool → Bool
 
 -- a fixed answer, and the bit is set or not
 abbrev quiet : Answer → Bool → Live
 quiet a sets =
     record {
-      answer = λ b h c. a;
+      answer = λ b h c p. a;
       sets = λ b h c. sets;
       button = λ b. b;
       hold = λ b h c. h;
       counter = λ b h c. c;
       off = λ b h c. false;
+      pin = λ p. p;
     }
 
 -- the bit is fitted
@@ -95,34 +98,46 @@ fittedAnswer s bit = cond (not (isFitted s bit)) answer.NotFitted (answer.Done 0
 abbrev pub liveOf : Settings → StatusBit → EventKind → Live
 liveOf s bit kind.press =
     record {
-      answer = λ b h c. cond (not (isFitted s bit)) answer.NotFitted (cond b answer.ButtonAlready (answer.Done 0));
+      answer = λ b h c p. cond (not (isFitted s bit)) answer.NotFitted (cond b answer.AlreadySo (answer.Done 0));
       sets = λ b h c. isFitted s bit && not b;
       button = λ b. isFitted s bit || b;
       hold = λ b h c. cond (isFitted s bit && not b) 0 h;
       counter = λ b h c. c;
       off = λ b h c. false;
+      pin = λ p. p;
     }
 liveOf s bit kind.release =
     record {
-      answer = λ b h c. cond (not (isFitted s bit)) answer.NotFitted (cond (not b) answer.ButtonAlready (answer.Done 0));
+      answer = λ b h c p. cond (not (isFitted s bit)) answer.NotFitted (cond (not b) answer.AlreadySo (answer.Done 0));
       sets = λ b h c. false;
       button = λ b. not (isFitted s bit) && b;
       hold = λ b h c. h;
       counter = λ b h c. c;
       off = λ b h c. false;
+      pin = λ p. p;
     }
 liveOf s bit kind.signal = quiet (fittedAnswer s bit) (isFitted s bit)
-liveOf s bit kind.pcieWake = quiet (fittedAnswer s bit) false
+liveOf s bit (kind.pin active) =
+    record {
+      answer = λ b h c p. cond (not (isFitted s bit)) answer.NotFitted (cond (Bool·beq p active) answer.AlreadySo (answer.Done 0));
+      sets = λ b h c. false;
+      button = λ b. b;
+      hold = λ b h c. h;
+      counter = λ b h c. c;
+      off = λ b h c. false;
+      pin = λ p. cond (isFitted s bit) active p;
+    }
 liveOf s bit kind.notice = quiet (answer.Done 0) true
 liveOf s bit (kind.general k) = quiet (cond (not (inGpe0 s k || inGpe1 s k)) answer.NoSuchEvent (answer.Done 0)) false
 liveOf s bit (kind.ticks n) =
     record {
-      answer = λ b h c. answer.Done (clockTicks s n b h c .turns);
+      answer = λ b h c p. answer.Done (clockTicks s n b h c .turns);
       sets = λ b h c. fits s tmrBit && not (eqb (clockTicks s n b h c .turns) 0);
       button = λ b. b;
       hold = λ b h c. clockTicks s n b h c .hold;
       counter = λ b h c. clockTicks s n b h c .counter;
       off = λ b h c. clockTicks s n b h c .off;
+      pin = λ p. p;
     }
 
 -- GPE0's status bytes, and GPE1's, with a general event's bit
@@ -148,6 +163,7 @@ effectBy s bit k =
       hold = liveOf s bit k .hold;
       counter = liveOf s bit k .counter;
       off = liveOf s bit k .off;
+      pin = liveOf s bit k .pin;
       gpe0 = λ xs. gpe0After s bit xs;
       gpe1 = λ xs. gpe1After s bit xs;
       pending = λ es fs. pendingBy s bit es fs;
@@ -198,13 +214,16 @@ signal-affects m i z = go (isFitted (m .settings) (pm1 i)) refl
     go false p = rw (p, or-zero-r (m .«pm1_sts»)) (refl, refl)
     go true p = rw (p, signal-done m (pm1 i) z) (refl, refl)
 
-pcie-wake-affects : (m : Machine) → m .state ≡ 0 → AffectsBy m (pm1 14) kind.pcieWake
-unfolding firstApplying pcieWakeOf isSleeping
-pcie-wake-affects m z = go (isFitted (m .settings) (pm1 14)) refl
+pin-affects : (m : Machine) (active : Bool) → m .state ≡ 0 → AffectsBy m (pm1 14) (kind.pin active)
+unfolding firstApplying pinOf isSleeping
+pin-affects m active z = go (isFitted (m .settings) (pm1 14)) active (m .«wake_pin») refl refl
   where
-    go : (f : Bool) → isFitted (m .settings) (pm1 14) ≡ f → AffectsBy m (pm1 14) kind.pcieWake
-    go false p = rw (p, or-zero-r (m .«pm1_sts»)) (refl, refl)
-    go true p = rw (p, or-zero-r (m .«pm1_sts»), z) (refl, refl)
+    go : (f a w : Bool) → isFitted (m .settings) (pm1 14) ≡ f → m .«wake_pin» ≡ w → AffectsBy m (pm1 14) (kind.pin a)
+    go false a w p q = rw (p, or-zero-r (m .«pm1_sts»)) (refl, refl)
+    go true true true p q = rw (p, q, or-zero-r (m .«pm1_sts»)) (refl, refl)
+    go true true false p q = rw (p, q, or-zero-r (m .«pm1_sts»), z) (refl, refl)
+    go true false true p q = rw (p, q, or-zero-r (m .«pm1_sts»)) (refl, refl)
+    go true false false p q = rw (p, q, or-zero-r (m .«pm1_sts»)) (refl, refl)
 
 notice-affects : (m : Machine) (i : ℕ) → m .state ≡ 0 → AffectsBy m (pm1 i) kind.notice
 unfolding firstApplying awake
@@ -255,7 +274,7 @@ kind-affects : {bit : StatusBit} {k : EventKind} → Pair bit k → (m : Machine
 kind-affects pair.press m z on = press-affects m z
 kind-affects pair.release m z on = release-affects m
 kind-affects (pair.signal i l) m z on = signal-affects m i z
-kind-affects pair.pcie-wake m z on = pcie-wake-affects m z
+kind-affects (pair.pin active) m z on = pin-affects m active z
 kind-affects (pair.notice i l f) m z on = notice-affects m i z
 kind-affects (pair.general k) m z on = general-affects m k z
 kind-affects (pair.ticks n) m z on = ticks-affects m n z on
@@ -273,7 +292,7 @@ kind-on-or-off : {bit : StatusBit} {k : EventKind} → Pair bit k → (m : Machi
 kind-on-or-off pair.press m z = inl refl
 kind-on-or-off pair.release m z = inl refl
 kind-on-or-off (pair.signal i l) m z = inl refl
-kind-on-or-off pair.pcie-wake m z = inl refl
+kind-on-or-off (pair.pin active) m z = inl refl
 kind-on-or-off (pair.notice i l f) m z = inl refl
 kind-on-or-off (pair.general k) m z = inl refl
 kind-on-or-off (pair.ticks n) m z = ticks-on-or-off m n z

@@ -19,7 +19,7 @@ use Rattle.split_access.specs.Gap.{eventBefore}
 use Rattle.split_access.proofs.Effects.{affected, effectOf, On, event-affects, event-on}
 use Rattle.split_access.proofs.Commute.{Apart, events-commute}
 use Rattle.split_access.proofs.Halves.{Passes, half-commutes, commute-back, on-back, event-read-passes, event-write-passes, control-read-passes, control-write-passes}
-use Rattle.split_access.proofs.Homes.{maskOf, raises-at-home, raises-small, ones-small, ones-at-home}
+use Rattle.split_access.proofs.Homes.{maskOf, raises-at-home, raises-small, clearable-elsewhere, ones-small, ones-at-home}
 
 -- awake, with these settings
 pub record Ok (s : Settings) (m : Machine) : Type 0 where
@@ -50,7 +50,7 @@ event-half-passes : (m : Machine) (b : Bool) (e : Event) (x : Step) → EventHal
 event-half-passes m b e x (event-read a r) h =
     event-read-passes m e a b r (raises-at-home (m .settings) e b h (m .button) (m .hold) (m .counter))
 event-half-passes m b e x (event-write a written r) h =
-    event-write-passes m e a written b r
+    event-write-passes m e a written b r (clearable-elsewhere m e b h)
     (ones-at-home m b (a .width) (offsetOf m a) written (maskOf (m .settings) e (m .button) (m .hold) (m .counter)) (raises-at-home (m .settings) e b h (m .button) (m .hold) (m .counter)))
     (ones-small m b (a .width) (offsetOf m a) written)
     (raises-small (m .settings) e (m .button) (m .hold) (m .counter))

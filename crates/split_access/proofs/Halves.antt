@@ -11,7 +11,7 @@ use Rattle.runs.proofs.Runs.{Commute}
 use Rattle.machine.specs.declared.Machine.{Machine}
 use Rattle.model.specs.Bus.{commandLost, readOf, writeOf}
 use Rattle.model.specs.Control.{namesNone, completes, controlled, typAfter, armedAfter, bmRldAfter, gblRlsAfter}
-use Rattle.registers.specs.Registers.{statusIn, onesIn, inStatus, statusAfter, enableAfter, hasPm1bCnt}
+use Rattle.registers.specs.Registers.{statusIn, clearable, onesIn, inStatus, statusAfter, enableAfter, hasPm1bCnt}
 use Rattle.machine.specs.Fields.{withEvent}
 use Rattle.machine.specs.Lines.{awake}
 use Rattle.model.proofs.Steps.{reads-change-nothing}
@@ -31,6 +31,7 @@ pub record Same (m n : Machine) : Type 0 where
   pub button : n .button ≡ m .button
   pub hold : n .hold ≡ m .hold
   pub counter : n .counter ≡ m .counter
+  pub pin : n .«wake_pin» ≡ m .«wake_pin»
   pub state : n .state ≡ m .state
 
 pub on-same : (m n : Machine) (g : Event) → Same m n → On m g → On n g
@@ -52,7 +53,7 @@ half-commutes m g x z on p =
     let g-m = event-affects m g z on in
     let g-n = event-affects (p .n) g (p .same .state ∙ z) (on-same m (p .n) g (p .same) on) in
     let says : answerTo (p .n) (step.Event g) ≡ answerTo m (step.Event g) =
-    g-n .0 ∙ (rw (p .same .settings, p .same .button, p .same .hold, p .same .counter) refl) ∙ sym (g-m .0) in
+    g-n .0 ∙ (rw (p .same .settings, p .same .button, p .same .hold, p .same .counter, p .same .pin) refl) ∙ sym (g-m .0) in
     let ends : after (p .n) (step.Event g) ≡ affected (effectOf (m .settings) g) (p .n) = g-n .1 ∙ (rw (p .same .settings) refl) in
     (rw (g-m .1) (p .shows), rw (p .half) says, rw (p .half, g-m .1) (ends ∙ sym (p .does)))
 
@@ -62,7 +63,7 @@ commute-back m x y c = (sym (c .1), sym (c .0), sym (c .2))
 -- ---- reads
 
 same-self : (m : Machine) → Same m m
-same-self m = record { settings = refl; button = refl; hold = refl; counter = refl; state = refl }
+same-self m = record { settings = refl; button = refl; hold = refl; counter = refl; pin = refl; state = refl }
 
 module _ (m : Machine) (g : Event) where
   abbrev E : Machine
@@ -104,13 +105,13 @@ module _ (m : Machine) (g : Event) where
   unfolding answerTo awake commandLost namesNone
   event-write-shows a written b r = rw r refl
 
-  status-passes : (a : Access) (written : ℕ) (b : Bool)
+  status-passes : (a : Access) (written : ℕ) (b : Bool) → clearable E b ≡ clearable m b
       → bitAnd mask (onesIn m b (a .width) (offsetOf m a) written) ≡ 0
       → onesIn m b (a .width) (offsetOf m a) written < 2 ^ 16
       → mask < 2 ^ 16
       → statusAfter E b (a .width) (offsetOf m a) written ≡ bitOr (statusAfter m b (a .width) (offsetOf m a) written) mask
   unfolding statusAfter
-  status-passes a written b d ones< mask< = go (inStatus (offsetOf m a))
+  status-passes a written b same d ones< mask< = rw same (go (inStatus (offsetOf m a)))
     where
       go : (t : Bool)
           → cond t (kept 16 (bitOr (m .«pm1_sts») mask) (onesIn m b (a .width) (offsetOf m a) written)) (bitOr (m .«pm1_sts») mask)
@@ -119,13 +120,13 @@ module _ (m : Machine) (g : Event) where
       go false = refl
 
   -- a write to the event cells of the other block
-  pub event-write-passes : (a : Access) (written : ℕ) (b : Bool) → registerOf m a ≡ register.Pm1Evt b
+  pub event-write-passes : (a : Access) (written : ℕ) (b : Bool) → registerOf m a ≡ register.Pm1Evt b → clearable E b ≡ clearable m b
       → bitAnd mask (onesIn m b (a .width) (offsetOf m a) written) ≡ 0
       → onesIn m b (a .width) (offsetOf m a) written < 2 ^ 16
       → mask < 2 ^ 16
       → Passes m g (step.Write a written)
   unfolding after writeOf enableAfter
-  event-write-passes a written b r d ones< mask< = go (accepted (answerTo m (step.Write a written))) refl
+  event-write-passes a written b r same d ones< mask< = go (accepted (answerTo m (step.Write a written))) refl
     where
       shows : answerTo m (step.Write a written) ≡ answerTo E (step.Write a written)
       shows = event-write-shows a written b r
@@ -135,10 +136,10 @@ module _ (m : Machine) (g : Event) where
       go true e =
           record {
             n = withEvent m (statusAfter m b (a .width) (offsetOf m a) written) (enableAfter m b (a .width) (offsetOf m a) written);
-            same = record { settings = refl; button = refl; hold = refl; counter = refl; state = refl };
+            same = record { settings = refl; button = refl; hold = refl; counter = refl; pin = refl; state = refl };
             half = rw (e, r) refl;
             shows = shows;
-            does = rw (← shows, e, r) (ap (λ (x : ℕ). withEvent E x (enableAfter m b (a .width) (offsetOf m a) written)) (status-passes a written b d ones< mask<));
+            does = rw (← shows, e, r) (ap (λ (x : ℕ). withEvent E x (enableAfter m b (a .width) (offsetOf m a) written)) (status-passes a written b same d ones< mask<));
           }
 
   -- a write to block A's control cells, with block B present: it may arm, and completes nothing
@@ -168,7 +169,7 @@ module _ (m : Machine) (g : Event) where
       go true e =
           record {
             n = controlled m false (a .width) (offsetOf m a) written;
-            same = record { settings = refl; button = refl; hold = refl; counter = refl; state = refl };
+            same = record { settings = refl; button = refl; hold = refl; counter = refl; pin = refl; state = refl };
             half = rw (e, r, completes-not (a .width) (offsetOf m a) written h) refl;
             shows = shows;
             does = rw (← shows, e, r, completes-not′ (a .width) (offsetOf m a) written h) refl;

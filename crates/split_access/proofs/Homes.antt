@@ -1,7 +1,7 @@
 -- The bits that an event raises lie in its home: outside the cells of block A where it goes before, and outside those of block B where it goes after.
 -- A bit is in the homes of just one block. Assumes nothing.
 use mathlib.Core.Bool.{Bool, true, false, not, cond}
-use mathlib.Core.Path.{_≡_, _∙_}
+use mathlib.Core.Path.{_≡_, refl, sym, _∙_}
 use Prim.Native.Nat.{ℕ, _+_, _*_, _-_, _^_, _≤_, _<_}
 use native.Mathlib.Nat.{lt-of-lt-of-le}
 use native.Mathlib.Omega.{arith}
@@ -9,23 +9,26 @@ use borrow.Author.Tests.{eqb-true, eqb-false, not-true, not-false}
 use lib.Bits.{bitAnd, and-zero-l, and-comm}
 use lib.Dec.{eqb, lit<}
 use lib.Pow.{shl-lt, pow-mono}
-use Rattle.bits.specs.Writes.{lane}
+use Rattle.bits.specs.Writes.{kept, lane}
 use Rattle.bits.specs.Digit.{digit}
 use Rattle.bits.proofs.Algebra.{disjoint-digit}
-use Rattle.bits.proofs.Writes.{masked-lt}
+use Rattle.bits.proofs.Writes.{masked-lt, kept-whole}
 use Rattle.bits.proofs.Digits.{digit-and, digit-le, digit-zero, digit-not, digit-own-bit, digit-other-bit, same-digits, below-or-beyond}
 use Rattle.platform.specs.Fitted.{statusCells}
 use Rattle.platform.specs.declared.settings.Settings.{Settings}
-use Rattle.machine.specs.Status.{hasBit}
+use Rattle.machine.specs.Status.{pciexpWakeBit, hasBit}
 use Rattle.registers.specs.Registers.{statusIn, clearable, onesIn, oneByte, covered, placed, laneAt}
 use Rattle.machine.specs.declared.Machine.{Machine}
-use Rattle.model.specs.Events.{pm1, eventBit, pm1Mask, eventMask}
-use Rattle.model.specs.EventKinds.{eventKind}
+use Rattle.model.specs.Events.{StatusBit, pm1, eventBit, pm1Mask, eventMask}
+use Rattle.model.specs.EventKinds.{EventKind, eventKind}
+use Rattle.model.specs.EventKinds as kind
 use Rattle.model.specs.Raises.{bitsIf}
 use Rattle.model.specs.declared.Event.{Event}
-use Rattle.model.proofs.EventBits.{pair-of, pm1-or-general, event-mask-lt}
+use Rattle.model.proofs.EventBits.{Pair, pair-of, pm1-or-general, event-mask-lt}
+use Rattle.model.proofs.EventBits as pair
+use Rattle.model.proofs.Fitted.{status-in-lt}
 use Rattle.split_access.specs.Gap.{livesInB, eventBefore}
-use Rattle.split_access.proofs.Effects.{liveOf, effectOf}
+use Rattle.split_access.proofs.Effects.{liveOf, affected, effectBy, effectOf}
 
 -- ---- one bit
 
@@ -63,6 +66,9 @@ out-of-b homes i e = and-comm (2 ^ i) homes ∙ eqb-true (bitAnd homes (2 ^ i)) 
 apart-within : (k c p v : ℕ) → bitAnd k c ≡ 0 → bitAnd k (bitAnd p (bitAnd c v)) ≡ 0
 apart-within k c p v e =
     same-digits _ _ (λ j. let d = disjoint-digit k c e j in simp (digit-and, digit-zero) (omega arith))
+
+apart-part : (k c v : ℕ) → bitAnd k c ≡ 0 → bitAnd k (bitAnd c v) ≡ 0
+apart-part k c v e = same-digits _ _ (λ j. let d = disjoint-digit k c e j in simp (digit-and, digit-zero) (omega arith))
 
 apart-cells : (k c h : ℕ) → bitAnd k h ≡ 0 → bitAnd k (bitAnd c h) ≡ 0
 apart-cells k c h e = same-digits _ _ (λ j. let d = disjoint-digit k h e j in simp (digit-and, digit-zero) (omega arith))
@@ -102,6 +108,32 @@ pub raises-small : (s : Settings) (e : Event) (button : Bool) (hold counter : �
 unfolding effectOf
 raises-small s e button hold counter = bit-small (liveOf s (eventBit e) (eventKind e) .sets button hold counter) (eventMask e) (event-mask-lt e)
 
+-- ---- the wake pin
+
+-- bit 14 lives in the other block: of this one's cells the pin holds none
+pin-elsewhere : (s : Settings) (b : Bool) → livesInB s (pm1 14) ≡ not b → (pin : Bool) → kept 16 (statusIn s b) (cond pin pciexpWakeBit 0) ≡ statusIn s b
+unfolding livesInB
+pin-elsewhere s b home pin =
+    kept-whole 16 (statusIn s b) (cond pin pciexpWakeBit 0) (status-in-lt s b) (bit-small pin pciexpWakeBit (lit< tt))
+    (and-comm (statusIn s b) (cond pin pciexpWakeBit 0) ∙ bit-in-home s b 14 (lit< tt) home pin)
+
+-- an event of the other block leaves what a write here may clear
+pub clearable-elsewhere : (m : Machine) (e : Event) (b : Bool) → eventBefore (m .settings) e ≡ not b → clearable (affected (effectOf (m .settings) e) m) b ≡ clearable m b
+unfolding effectOf
+clearable-elsewhere m e b home = go (pair-of e) home
+  where
+    held : Bool → ℕ
+    held pin = kept 16 (statusIn (m .settings) b) (cond pin pciexpWakeBit 0)
+
+    go : {bit : StatusBit} {k : EventKind} → Pair bit k → livesInB (m .settings) bit ≡ not b → held (effectBy (m .settings) bit k .pin (m .«wake_pin»)) ≡ held (m .«wake_pin»)
+    go pair.press h = refl
+    go pair.release h = refl
+    go (pair.signal i l) h = refl
+    go (pair.pin active) h = pin-elsewhere (m .settings) b h (effectBy (m .settings) (pm1 14) (kind.pin active) .pin (m .«wake_pin»)) ∙ sym (pin-elsewhere (m .settings) b h (m .«wake_pin»))
+    go (pair.notice i l f) h = refl
+    go (pair.general k) h = refl
+    go (pair.ticks n) h = refl
+
 -- ---- the ones of a write
 
 covered-small : (width offset : ℕ) → covered width offset < 2 ^ 16
@@ -117,4 +149,5 @@ pub ones-small : (m : Machine) (b : Bool) (width offset written : ℕ) → onesI
 ones-small m b width offset written = masked-lt 16 (placed offset written) (bitAnd (clearable m b) (covered width offset)) (masked-lt 16 (clearable m b) (covered width offset) (covered-small width offset))
 
 pub ones-at-home : (m : Machine) (b : Bool) (width offset written mask : ℕ) → bitAnd mask (statusIn (m .settings) b) ≡ 0 → bitAnd mask (onesIn m b width offset written) ≡ 0
-ones-at-home m b width offset written mask e = apart-within mask (statusIn (m .settings) b) (placed offset written) (covered width offset) e
+ones-at-home m b width offset written mask e =
+    apart-within mask (clearable m b) (placed offset written) (covered width offset) (apart-part mask (statusIn (m .settings) b) _ e)

@@ -38,12 +38,12 @@ abbrev refused : Event → Answer → Step × Answer
 refused e a = (step.Event e, a)
 
 -- Sleep button; the status read, and written back; to sleep S3; a refused read.
--- In the gaps: an alarm of home B, a press of home A, general events, a refused PCIe wake and a refused general event, ticks, a release.
+-- In the gaps: an alarm of home B, a press of home A, general events, a refused pin step and a refused general event, ticks, a release.
 abbrev items : List (Item (Step × Answer))
 items =
     one (did event.SleepPress)
     ∷ event (readOf 0x400 (answer.Done 0x200))
-    (did event.Press ∷ did event.Alarm ∷ did (event.General 3) ∷ refused event.PcieWake answer.NotFitted ∷ [])
+    (did event.Press ∷ did event.Alarm ∷ did (event.General 3) ∷ refused event.PinActive answer.NotFitted ∷ [])
     (readOf 0x440 (answer.Done 0x400))
     ∷ event (writeOf 0x400 0x200)
     (did (event.Ticks 2) ∷ did event.Alarm ∷ [])
@@ -63,7 +63,7 @@ movedItems =
     ∷ readOf 0x440 (answer.Done 0x400)
     ∷ did event.Press
     ∷ did (event.General 3)
-    ∷ refused event.PcieWake answer.NotFitted
+    ∷ refused event.PinActive answer.NotFitted
     ∷ did event.Alarm
     ∷ writeOf 0x400 0x200
     ∷ writeOf 0x440 0x400
@@ -86,9 +86,9 @@ end =
 
 -- ---- the premises
 
-first-gap : Gap (step.Event event.Press ∷ step.Event event.Alarm ∷ step.Event (event.General 3) ∷ step.Event event.PcieWake ∷ [])
+first-gap : Gap (step.Event event.Press ∷ step.Event event.Alarm ∷ step.Event (event.General 3) ∷ step.Event event.PinActive ∷ [])
 unfolding steps-compute
-first-gap = record { steps = (gap-step event.Press, (gap-step event.Alarm, (gap-step (event.General 3), (gap-step event.PcieWake, tt)))); unmixed = refl }
+first-gap = record { steps = (gap-step event.Press, (gap-step event.Alarm, (gap-step (event.General 3), (gap-step event.PinActive, tt)))); unmixed = refl }
 
 second-gap : Gap (step.Event (event.Ticks 2) ∷ step.Event event.Alarm ∷ [])
 unfolding steps-compute

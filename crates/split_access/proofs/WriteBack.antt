@@ -19,7 +19,7 @@ use Rattle.platform.specs.Legal.{Guaranteed, HasGpeLength, HasNone}
 use Rattle.platform.specs.Rules.{eventCount}
 use Rattle.platform.specs.declared.block.Block.{Block}
 use Rattle.platform.specs.declared.settings.Settings.{Settings}
-use Rattle.registers.specs.Registers.{placed, statusIn, clearable, onesIn, inStatus, gpeSts}
+use Rattle.registers.specs.Registers.{placed, statusIn, onesIn, inStatus, gpeSts}
 use Rattle.machine.specs.Lines.{awake}
 use Rattle.machine.specs.PowerOn.{gpeBytes, powerOn}
 use Rattle.machine.specs.SetUp.{setUpOf}
@@ -29,7 +29,7 @@ use Rattle.fadt.specs.Fields.{settingsOf}
 use Rattle.model.specs.Events.{StatusBit, pm1, eventBit, inS5}
 use Rattle.model.specs.EventKinds.{EventKind, eventKind}
 use Rattle.model.specs.EventKinds as kind
-use Rattle.model.specs.Raises.{Change, unchanged, bitsIf, pressChange, signalChange, pcieWakeChange, ticksChange, changeBy, eventChange, ruleChange, writeChange, raises, clears, gpeEventChange, gpeOnes, gpeRuleChange, gpeRaises, gpeClears}
+use Rattle.model.specs.Raises.{Change, unchanged, bitsIf, pressChange, signalChange, pinChange, ticksChange, changeBy, eventChange, ruleChange, writeChange, raises, clears, gpeEventChange, gpeOnes, gpeRuleChange, gpeRaises, gpeClears}
 use Rattle.model.specs.Step.{answerTo, after, accepted, stepOf, registerOf, offsetOf}
 use Rattle.model.specs.declared.Access.{Access}
 use Rattle.model.specs.declared.Event.{Event}
@@ -152,11 +152,11 @@ not-in-s5 m z = rw z refl
 
 -- a gap step of a machine that stays awake clears no PM1 bit
 kind-change-none : (m : Machine) (bit : StatusBit) (k : EventKind) → m .state ≡ 0 → OnBy m bit k → changeBy m bit k .cleared ≡ 0
-unfolding pressChange signalChange pcieWakeChange ticksChange
+unfolding pressChange signalChange pinChange ticksChange
 kind-change-none m bit kind.press z on = rw (not-in-s5 m z) refl
 kind-change-none m bit kind.release z on = refl
 kind-change-none m bit kind.signal z on = refl
-kind-change-none m bit kind.pcieWake z on = refl
+kind-change-none m bit (kind.pin active) z on = refl
 kind-change-none m bit kind.notice z on = refl
 kind-change-none m bit (kind.general k) z on = refl
 kind-change-none m bit (kind.ticks n) z on = rw (on, and-false (awake m)) refl
@@ -193,7 +193,7 @@ gpe-write-clears-none m a written c b i r = none-cleared (accepted (answerTo m (
 
 -- a write to an event register clears no PM1 bit that is not both written and the block's
 write-clears-none : (m : Machine) (a : Access) (written : ℕ) (c : Bool) (i : ℕ) → registerOf m a ≡ register.Pm1Evt c
-    → (digit i (placed (offsetOf m a) written) ≡ 0) ⊎ (digit i (clearable m c) ≡ 0) → digit i (clears m (step.Write a written)) ≡ 0
+    → (digit i (placed (offsetOf m a) written) ≡ 0) ⊎ (digit i (statusIn (m .settings) c) ≡ 0) → digit i (clears m (step.Write a written)) ≡ 0
 unfolding clears ruleChange writeChange
 write-clears-none m a written c i r h = go (accepted (answerTo m (step.Write a written))) (inStatus (offsetOf m a))
   where

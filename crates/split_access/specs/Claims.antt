@@ -28,6 +28,7 @@ pub data Halves (a b : Block) : Step → Step → Type 0 where
       → Halves a b (step.Write (accessAt a offset width) first) (step.Write (accessAt b offset width) second)
 
 -- "any number of presses, releases, sleep presses, alarms, PCIe wakes, bus-master, unlock and general events, and ticks"
+-- Request W3, in place of the PCIe wakes: "both pin steps count among the events"
 pub data GapStep : Step → Type 0 where
   gap-step : (e : Event) → GapStep (step.Event e)
 

@@ -47,7 +47,7 @@ abbrev pub ticksIn : EventKind → ℕ
 ticksIn kind.press = 0
 ticksIn kind.release = 0
 ticksIn kind.signal = 0
-ticksIn kind.pcieWake = 0
+ticksIn (kind.pin active) = 0
 ticksIn kind.notice = 0
 ticksIn (kind.general k) = 0
 ticksIn (kind.ticks n) = n

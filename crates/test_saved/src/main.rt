@@ -18,6 +18,13 @@ const DIGIT: usize = 18;
 
 const STATE: usize = 677;
 
+// The editions that a text is given: the newest, which is its own; an older one; and one that no reader knows.
+const NEWEST: u8 = b'2';
+
+const OLDER: u8 = b'1';
+
+const UNKNOWN: u8 = b'3';
+
 fn empty() -> [u8; ROOM]
     ensures { λ r. ⌜ 1024 ≡ length r ⌝ }
 {
@@ -34,16 +41,23 @@ fn all(text: &[u8]) {
     room(b"a buffer one short", text, 1);
     room(b"a buffer exactly as long", text, 0);
     room(b"no buffer", text, ROOM);
-    answer(b"nothing wrong", text, false, false, false);
-    answer(b"illegal", text, false, false, true);
-    answer(b"malformed", text, false, true, false);
-    answer(b"malformed and illegal", text, false, true, true);
-    answer(b"no known edition", text, true, false, false);
-    answer(b"no known edition, and illegal", text, true, false, true);
+    answer(b"nothing wrong", text, NEWEST, false, false);
+    answer(b"illegal", text, NEWEST, false, true);
+    answer(b"malformed", text, NEWEST, true, false);
+    answer(b"malformed and illegal", text, NEWEST, true, true);
+    answer(
+        b"a record that edition 1 does not have",
+        text,
+        OLDER,
+        false,
+        false,
+    );
+    answer(b"no known edition", text, UNKNOWN, false, false);
+    answer(b"no known edition, and illegal", text, UNKNOWN, false, true);
     answer(
         b"no known edition, malformed and illegal",
         text,
-        true,
+        UNKNOWN,
         true,
         true,
     );
@@ -107,17 +121,17 @@ fn byte(name: &[u8], buf: &[u8], i: usize) {
     }
 }
 
-// What the text is answered with these faults: edition 2; a letter that is no digit; state 9.
-fn answer(name: &[u8], text: &[u8], edition: bool, malformed: bool, illegal: bool) {
+// What the text is answered with this edition and these faults: a letter that is no digit; state 9.
+fn answer(name: &[u8], text: &[u8], edition: u8, malformed: bool, illegal: bool) {
     let mut buf = empty();
     damage(text, edition, malformed, illegal, &mut buf);
     let n = text.len();
     read(name, n, &buf);
 }
 
-fn damage(text: &[u8], edition: bool, malformed: bool, illegal: bool, buf: &mut [u8]) {
+fn damage(text: &[u8], edition: u8, malformed: bool, illegal: bool, buf: &mut [u8]) {
     text::write_text(buf, 0, text);
-    text::write_byte(buf, at(edition, EDITION), b'2');
+    text::write_byte(buf, EDITION, edition);
     text::write_byte(buf, at(malformed, DIGIT), b'G');
     text::write_byte(buf, at(illegal, STATE), b'9');
 }

@@ -69,7 +69,7 @@ pub(crate) fn power_on(name: &[u8]) -> Machine {
     session()
 }
 
-// Document 01's worked session: RTC has home B, PCIe wake is not fitted.
+// Document 01's worked session: RTC has home B, the wake pin is not fitted.
 pub(crate) fn session() -> Machine {
     set_up(session_table(), 0x0400, 0x0000, false, SESSION_STATES)
 }

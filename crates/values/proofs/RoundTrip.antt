@@ -207,6 +207,7 @@ machine-back m e =
       bit-0-back (m .«arb_dis»),
       flag-back (m .armed),
       mod-eq-of-lt (lt-of-lt-of-le (state-small s (m .state) (f .six) (l .state)) (lit≤ tt)),
+      flag-back (m .«wake_pin»),
       ← legal-walk m e,
     )
     refl

@@ -68,7 +68,7 @@ settingsValues s =
 abbrev pub commandValue : Bool → ℕ → ℕ
 commandValue waits command = cond waits (2 ^ 8 + command) 0
 
--- the records PM1a_STS to STATE: the registers of blocks A and B as the guest reads them, and what else the machine holds
+-- the records PM1a_STS to WAKE_PIN: the registers of blocks A and B as the guest reads them, and what else the machine holds
 abbrev pub machineValues : Machine → List ℕ
 machineValues m =
     statusRegister m false ∷
@@ -85,9 +85,10 @@ machineValues m =
     flagValue (m .«gbl_rls») ∷
     flagValue (m .armed) ∷
     m .state ∷
+    flagValue (m .«wake_pin») ∷
     []
 
--- all 42, in the order of the records
+-- all 43, in the order of the records
 abbrev pub valuesOf : Machine → List ℕ
 valuesOf m = settingsValues (m .settings) ++ machineValues m
 
@@ -169,7 +170,8 @@ machineFrom vs gpe0-sts gpe0-en gpe1-sts gpe1-en =
     (dwordIn vs 35, dwordIn vs 36, flagIn vs 37)
     (bitIn vs 38 8, byteIn vs 38)
     (controlBitIn vs «SCI_EN», controlBitIn vs «BM_RLD», flagIn vs 39, slpTypIn vs 32, slpTypIn vs 33, bitIn vs 34 «ARB_DIS»)
-    (flagIn vs 40, byteIn vs 41))
+    (flagIn vs 40, byteIn vs 41)
+    (flagIn vs 42))
 
 -- ---- what a reader asks
 

@@ -145,7 +145,7 @@ pub fn machine_from(
         hold: low32(v[36]),
         button: flag(v[37]),
         command_waits: bit(v[38], 8),
-        command: low8(v[38]),
+        command: low8(v[38]) as u32,
         gbl_rls: flag(v[39]),
         armed: flag(v[40]),
         slp_typ_a: slp_typ(cnt_a),
@@ -155,6 +155,7 @@ pub fn machine_from(
         arb_dis: bit(v[34], ARB_DIS),
         state: low8(v[41]),
         gpe_pending: false,
+        wake_pin: flag(v[42]),
     };
     m.walk_gpe()
 }

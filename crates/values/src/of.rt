@@ -47,7 +47,7 @@ fn pair_value(p: [u8; 2]) -> u64
     two_bytes(p[0], p[1])
 }
 
-fn command_value(waits: bool, command: u8) -> u64
+fn command_value(waits: bool, command: u32) -> u64
     ensures { λ r. ⌜ r ≡ commandValue waits command ⌝ }
 {
     if waits { 256 + command as u64 } else { 0 }
@@ -105,8 +105,8 @@ fn settings_values(s: Settings) -> [u64; 28]
     ]
 }
 
-// The records PM1a_STS to STATE.
-fn machine_values(m: Machine) -> [u64; 14]
+// The records PM1a_STS to WAKE_PIN.
+fn machine_values(m: Machine) -> [u64; 15]
     ensures { λ r. ⌜ r ≡ machineValues m ⌝ }
 {
     let s = m.settings;
@@ -125,6 +125,7 @@ fn machine_values(m: Machine) -> [u64; 14]
         flag_value(m.gbl_rls),
         flag_value(m.armed),
         wide8(m.state),
+        flag_value(m.wake_pin),
     ]
 }
 
@@ -143,7 +144,7 @@ fn value_at(first: &[u64], then: &[u64], i: usize) -> u64
     0
 }
 
-fn joined(first: [u64; 28], then: [u64; 14]) -> [u64; crate::VALUES]
+fn joined(first: [u64; 28], then: [u64; 15]) -> [u64; crate::VALUES]
     ensures { λ r. ⌜ r ≡ first ++ then ⌝ }
 {
     let mut all = [0u64; crate::VALUES];

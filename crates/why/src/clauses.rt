@@ -30,6 +30,9 @@ pub(crate) fn clause(broken: Clause) {
         Clause::Button => say(
             b"BUTTON is 1, and no power button is fitted (bit 4 of FLAGS is set)\n",
         ),
+        Clause::WakePin => say(
+            b"WAKE_PIN is 1, and no wake pin is fitted (bit 14 of FLAGS is clear)\n",
+        ),
         Clause::Command => say(
             b"SMI_CMD is zero, and a COMMAND waits or SCI_EN (PM1a_CNT, PM1b_CNT) is clear\n",
         ),

@@ -82,7 +82,7 @@ pub(crate) fn step_unread(source: &[u8], line: usize, after_platform: bool) {
     }
     step(
         bytes,
-        b"r PORT WIDTH\nw PORT WIDTH DATA\npress\nrelease\nsleep\nalarm\nwake\nmaster\nunlock\nevent N\ntick N\ntake\ndrop",
+        b"r PORT WIDTH\nw PORT WIDTH DATA\npress\nrelease\nsleep\nalarm\npin LEVEL\nmaster\nunlock\nevent N\ntick N\ntake\ndrop",
     );
 }
 
@@ -209,6 +209,10 @@ fn step(line: &[u8], forms: &[u8]) {
         say(b" (write w)\n");
         return;
     }
+    if same(word, b"wake") {
+        say(b" (the wake pin is a level: write pin and 1, or pin and 0, with a tab between)\n");
+        return;
+    }
     if 0 < known.len() {
         say(b" (the nearest is ");
         say(known);
@@ -291,8 +295,13 @@ fn is_state(name: &[u8]) -> bool {
     name.len() == 2
 }
 
+// The fields that are one digit, 0 or 1: the override, and the wake pin's level.
+fn is_flag(name: &[u8]) -> bool {
+    same(name, b"OVERRIDE") | same(name, b"LEVEL")
+}
+
 fn value_reads(name: &[u8], value: &[u8]) -> bool {
-    if same(name, b"OVERRIDE") {
+    if is_flag(name) {
         return same(value, b"0") | same(value, b"1");
     }
     if is_state(name) {
@@ -308,8 +317,10 @@ fn value_wrong(name: &[u8], value: &[u8]) {
         return;
     }
     shown(value);
-    if same(name, b"OVERRIDE") {
-        say(b" is no OVERRIDE (write 0 or 1)\n");
+    if is_flag(name) {
+        say(b" is no ");
+        say(name);
+        say(b" (write 0 or 1)\n");
         return;
     }
     if is_state(name) {

@@ -1,6 +1,6 @@
 //! Bus accesses: where a port leads, the widths, and the registers.
 
-use crate::cells::{BM_RLD, ENABLES, GBL_RLS, SCI_EN, SLP_EN};
+use crate::cells::{BM_RLD, ENABLES, GBL_RLS, PCIEXP_WAKE, SCI_EN, SLP_EN};
 use crate::{Block, Machine, A, B};
 
 /// The block that a port lies in, and the offset there.
@@ -127,6 +127,8 @@ impl Machine {
         let written = data << shift;
         let cells = touched & self.hardware.visible[block];
         if offset < 2 {
+            // Request W3: "Clearing works only with the pin inactive".
+            let cells = if self.pin { cells & !PCIEXP_WAKE } else { cells };
             self.status &= !(written & cells);
         } else {
             let cells = cells & ENABLES;

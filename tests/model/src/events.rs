@@ -1,4 +1,4 @@
-//! Events: buttons, alarm, PCIe wake, bus master, global lock and general events.
+//! Events: buttons, alarm, wake pin, bus master, global lock and general events.
 
 use crate::cells::{PCIEXP_WAKE, PWRBTN, RTC};
 use crate::Machine;
@@ -44,10 +44,15 @@ impl Machine {
         Ok(())
     }
 
-    /// Only where it wakes is its bit set; bit 14 of the enable register is a disable.
-    pub(crate) fn pcie_wake(&mut self) -> Result<(), u8> {
+    /// Request W3: "28 where not fitted, then 30 when the pin is already at that level". Only where pin active wakes is its
+    /// bit set; bit 14 of the enable register is a disable.
+    pub(crate) fn move_pin(&mut self, active: bool) -> Result<(), u8> {
         self.has(PCIEXP_WAKE)?;
-        if self.asleep() && self.enable & PCIEXP_WAKE == 0 {
+        if self.pin == active {
+            return Err(30);
+        }
+        self.pin = active;
+        if active && self.asleep() && self.enable & PCIEXP_WAKE == 0 {
             self.status |= PCIEXP_WAKE;
             self.wake();
         }

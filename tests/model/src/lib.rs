@@ -1,6 +1,6 @@
 //! The ward laptop's power registers once more: document 01's machine as plain code over plain state.
-//! A module for each of its headings, and `saved` for request W2's text. It shares nothing with the proved crates, so
-//! that the two can be compared.
+//! A module for each of its headings, and `saved` for request W2's text; the wake pin is request W3's. It shares nothing
+//! with the proved crates, so that the two can be compared.
 
 mod bus;
 mod cells;
@@ -53,6 +53,9 @@ pub struct Machine {
     pub armed: bool,
     /// 0 to 5 for S0 to S5.
     pub state: u8,
+
+    /// The wake pin is active.
+    pub pin: bool,
 
     pub counter: u32,
     /// The power button is down, and for so many ticks.

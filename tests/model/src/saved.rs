@@ -1,7 +1,8 @@
-//! Request W2: the machine and its settings as text, edition 1. The first line names the edition; then a record a line,
-//! `NAME` tab `VALUE`, in a fixed order. Numbers are in upper case hex of a fixed width, and every line ends in LF.
+//! Request W2: the machine and its settings as text. The first line names the edition; then a record a line, `NAME` tab
+//! `VALUE`, in a fixed order. Numbers are in upper case hex of a fixed width, and every line ends in LF. Edition 2, that of
+//! request W3, has WAKE_PIN; it is what is written, and edition 1 is still read.
 
-use crate::cells::{BM_RLD, ENABLES, PWRBTN, SCI_EN};
+use crate::cells::{BM_RLD, ENABLES, PCIEXP_WAKE, PWRBTN, SCI_EN};
 use crate::set_up::{rules_5_to_12, Fadt};
 use crate::{Block, Gpe, Hardware, Machine, Settings, A, B, GPE_BYTES, HOLD_LIMIT};
 
@@ -12,8 +13,8 @@ pub const MALFORMED: u8 = 41;
 /// illegal setting or cell.
 pub const ILLEGAL: u8 = 42;
 
-/// What breaks each clause of W2's list after its settings.
-pub const CLAUSES: [&str; 15] = [
+/// What breaks each clause of W2's list after its settings, and W3's.
+pub const CLAUSES: [&str; 16] = [
     "a status bit that is not the register's",
     "an enable bit that is not the register's",
     "a control bit that is not the register's",
@@ -29,6 +30,7 @@ pub const CLAUSES: [&str; 15] = [
     "armed outside S0",
     "armed without B control",
     "B's SLP_TYP without B",
+    "wake pin active, not fitted",
 ];
 
 const SLP_TYP: u16 = 7 << 10;
@@ -37,7 +39,7 @@ const ARB_DIS: u8 = 1;
 /// The text of any machine.
 pub fn write(machine: &Machine) -> Vec<u8> {
     let hardware = &machine.hardware;
-    let mut text = String::from("edition\t1\n");
+    let mut text = String::from("edition\t2\n");
 
     text += &format!("SMI_CMD\t{:016X}\n", hardware.smi_cmd.start);
     text += &format!("ACPI_ENABLE\t{:02X}\n", hardware.acpi_enable);
@@ -85,6 +87,7 @@ pub fn write(machine: &Machine) -> Vec<u8> {
     text += &format!("RELEASE\t{}\n", u8::from(machine.release));
     text += &format!("ARMED\t{}\n", u8::from(machine.armed));
     text += &format!("STATE\t{:X}\n", machine.state);
+    text += &format!("WAKE_PIN\t{}\n", u8::from(machine.pin));
     text += &format!("GPE0_STS\t{}\n", gpe_digits(&machine.gpe[0].status, hardware.gpe[0].length));
     text += &format!("GPE0_EN\t{}\n", gpe_digits(&machine.gpe[0].enable, hardware.gpe[0].length));
     text += &format!("GPE1_STS\t{}\n", gpe_digits(&machine.gpe[1].status, hardware.gpe[1].length));
@@ -123,10 +126,12 @@ pub fn read(text: &[u8]) -> Result<Machine, u8> {
 fn records(text: &[u8]) -> Result<Records, u8> {
     // The first line ends before the first LF, or is the whole text.
     let mut parts = text.splitn(2, |byte| *byte == b'\n');
-    if parts.next() != Some(b"edition\t1") {
-        return Err(NO_EDITION);
-    }
-    Records::read(parts.next().ok_or(MALFORMED)?)
+    let edition = match parts.next() {
+        Some(b"edition\t1") => 1,
+        Some(b"edition\t2") => 2,
+        _ => return Err(NO_EDITION),
+    };
+    Records::read(edition, parts.next().ok_or(MALFORMED)?)
 }
 
 /// What a well formed text breaks: the first of rules 5 to 12, or else all of `CLAUSES`.
@@ -178,12 +183,13 @@ pub struct Records {
     pub release: bool,
     pub armed: bool,
     pub state: u8,
+    pub pin: bool,
     pub gpe: [Gpe; 2],
 }
 
 impl Records {
     /// The lines after the first, each with its LF.
-    fn read(text: &[u8]) -> Result<Records, u8> {
+    fn read(edition: u8, text: &[u8]) -> Result<Records, u8> {
         let text = text.strip_suffix(b"\n").ok_or(MALFORMED)?;
         let mut lines = Lines(text.split(|byte| *byte == b'\n').collect::<Vec<_>>().into_iter());
         // In the order of the text.
@@ -225,6 +231,8 @@ impl Records {
             release: lines.flag("RELEASE")?,
             armed: lines.flag("ARMED")?,
             state: lines.h1("STATE")?,
+            // "an older text reads with the added record at its power-on setting"
+            pin: if edition < 2 { false } else { lines.flag("WAKE_PIN")? },
             gpe: [Gpe::default(); 2],
         };
         records.gpe[0].status = lines.gpe("GPE0_STS", records.gpe_len[0])?;
@@ -251,6 +259,7 @@ impl Records {
             arb_dis: self.pm2 & ARB_DIS != 0,
             armed: self.armed,
             state: self.state,
+            pin: self.pin,
             counter: self.counter,
             down: self.button,
             hold: self.hold,
@@ -308,7 +317,7 @@ impl Records {
         ((self.control[block] & SLP_TYP) >> 10) as u8
     }
 
-    /// W2's list after its settings, in the order of `CLAUSES`: whether each is kept.
+    /// W2's list after its settings and W3's clause, in the order of `CLAUSES`: whether each is kept.
     fn kept(&self, hardware: &Hardware) -> [bool; CLAUSES.len()] {
         // "no unfitted or reserved bit, bit outside its home": a GPE record has just its block's bytes, and every bit
         // of these is fitted.
@@ -342,6 +351,8 @@ impl Records {
         let armed_with_b = !self.armed || hardware.control[B].present();
         // "B's SLP_TYP zero without B"
         let slp_typ_b = self.slp_typ(B) == 0 || hardware.control[B].present();
+        // Request W3: "active only where fitted"
+        let pin = !self.pin || hardware.fitted & PCIEXP_WAKE != 0;
         [
             status,
             enable,
@@ -358,6 +369,7 @@ impl Records {
             armed_in_s0,
             armed_with_b,
             slp_typ_b,
+            pin,
         ]
     }
 }

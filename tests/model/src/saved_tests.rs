@@ -1,11 +1,15 @@
-//! The saved text: that of a known machine, each clause of W2's list on both sides, and each form of a value.
+//! The saved text: that of a known machine, each clause of W2's list on both sides, each form of a value, and the
+//! editions.
+
+use std::fs;
+use std::path::Path;
 
 use crate::saved::{read, write};
 use crate::{Machine, Step};
 
-/// Every block there and every event fitted; RTC and BM at B, and so are BM_RLD and GBL_RLS; S2 absent. Spaces stand
-/// for tabs.
-const FULL: &str = "edition 1
+/// Every block there and every event fitted; RTC and BM at B, and so are BM_RLD and GBL_RLS; S2 absent; the pin active.
+/// Spaces stand for tabs.
+const FULL: &str = "edition 2
 SMI_CMD 00000000000000B2
 ACPI_ENABLE E1
 ACPI_DISABLE 1E
@@ -48,6 +52,7 @@ COMMAND 1E1
 RELEASE 1
 ARMED 0
 STATE 0
+WAKE_PIN 1
 GPE0_STS 01A0
 GPE0_EN 8002
 GPE1_STS 0123456F
@@ -55,7 +60,7 @@ GPE1_EN 89ABCDEF
 ";
 
 /// As little as there can be: PM1a alone, nothing fitted that can be left out.
-const LEAST: &str = "edition 1
+const LEAST: &str = "edition 2
 SMI_CMD 0000000000000000
 ACPI_ENABLE 00
 ACPI_DISABLE 00
@@ -98,9 +103,10 @@ COMMAND 000
 RELEASE 0
 ARMED 0
 STATE 0
+WAKE_PIN 0
 GPE0_STS \nGPE0_EN \nGPE1_STS \nGPE1_EN \n";
 
-const RECORDS: usize = 46;
+const RECORDS: usize = 47;
 
 fn tabbed(text: &str) -> Vec<u8> {
     text.replace(' ', "\t").into_bytes()
@@ -203,6 +209,7 @@ fn full_text_read() {
     assert_eq!((machine.sci_en, machine.bm_rld, machine.slp_typ, machine.arb_dis), (true, true, [5, 2], true));
     assert_eq!((machine.counter, machine.hold, machine.down), (0xABCDEF, 14_318_179, true));
     assert_eq!((machine.command, machine.release, machine.armed, machine.state), (Some(0xE1), true, false, 0));
+    assert!(machine.pin);
     assert_eq!(machine.gpe[0].status, [0x01, 0xA0, 0, 0, 0, 0, 0, 0]);
     assert_eq!(machine.gpe[0].enable, [0x80, 0x02, 0, 0, 0, 0, 0, 0]);
     assert_eq!(machine.gpe[1].status, [0x01, 0x23, 0x45, 0x6F, 0, 0, 0, 0]);
@@ -243,37 +250,42 @@ fn any_machine_has_a_text() {
 
 #[test]
 fn first_line() {
-    let rest = &tabbed(FULL)["edition\t1".len()..];
+    let rest = &tabbed(FULL)["edition\t2".len()..];
     for (number, first) in [
-        (0, "edition\t1"),
-        (40, "edition\t2"),
+        (0, "edition\t2"),
+        (41, "edition\t1"),
+        (40, "edition\t3"),
         (40, "edition\t0"),
+        (40, "edition\t02"),
         (40, "edition\t01"),
-        (40, "edition\t1 "),
-        (40, "edition\t1\t"),
-        (40, "edition\t1\r"),
-        (40, "edition\t11"),
+        (40, "edition\t2 "),
+        (40, "edition\t2\t"),
+        (40, "edition\t2\r"),
+        (40, "edition\t22"),
+        (40, "edition\t12"),
         (40, "edition\t"),
         (40, "edition"),
-        (40, "edition 1"),
-        (40, "edition\t\t1"),
-        (40, " edition\t1"),
-        (40, "Edition\t1"),
-        (40, "EDITION\t1"),
-        (40, "\u{FEFF}edition\t1"),
+        (40, "edition 2"),
+        (40, "edition\t\t2"),
+        (40, " edition\t2"),
+        (40, "Edition\t2"),
+        (40, "EDITION\t2"),
+        (40, "\u{FEFF}edition\t2"),
         (40, "\0"),
         (40, ""),
-        (40, "\nedition\t1"),
+        (40, "\nedition\t2"),
     ] {
         assert_eq!(answer(&[first.as_bytes(), rest].concat()), number, "{first:?}");
     }
     assert_eq!(answer(b""), 40);
     assert_eq!(answer(b"\n"), 40);
     // Without an LF the first line is the whole text.
-    assert_eq!(answer(b"edition\t1"), 41);
-    assert_eq!(answer(b"edition\t1\n"), 41);
-    assert_eq!(answer(b"edition\t1\n\n"), 41);
-    assert_eq!(answer(b"edition\t2"), 40);
+    for edition in ["edition\t1", "edition\t2"] {
+        assert_eq!(answer(edition.as_bytes()), 41);
+        assert_eq!(answer(format!("{edition}\n").as_bytes()), 41);
+        assert_eq!(answer(format!("{edition}\n\n").as_bytes()), 41);
+    }
+    assert_eq!(answer(b"edition\t3"), 40);
     assert_eq!(answer(FULL.replace(' ', "\t").replace('\n', "").as_bytes()), 40);
     assert_eq!(answer(FULL.replace(' ', "\t").replace('\n', "\r\n").as_bytes()), 40);
     assert_eq!(answer(FULL.as_bytes()), 40);
@@ -291,7 +303,7 @@ fn lines_missing_surplus_or_swapped() {
         assert_eq!(answer(&changed.concat()), 41, "line {at} missing");
         changed.insert(at, lines[at]);
         assert_eq!(answer(&changed.concat()), 0);
-        for surplus in [lines[at], b"\n", b"edition\t1\n", b"WAKE_PIN\t0\n", b"\t\n"] {
+        for surplus in [lines[at], b"\n", b"edition\t2\n", b"WAKE_PIN\t0\n", b"\t\n"] {
             changed.insert(at, surplus);
             assert_eq!(answer(&changed.concat()), 41, "a line before line {at}");
             changed.remove(at);
@@ -306,7 +318,7 @@ fn lines_missing_surplus_or_swapped() {
         let cut = lines[..=at].concat();
         assert_eq!(answer(&cut[..cut.len() - 1]), 41);
     }
-    for surplus in [&b"\n"[..], b" ", b"\t", b"\0", b"\r\n", b"GPE2_STS\t\n", b"edition\t1\n", lines[RECORDS]] {
+    for surplus in [&b"\n"[..], b" ", b"\t", b"\0", b"\r\n", b"GPE2_STS\t\n", b"edition\t2\n", lines[RECORDS]] {
         assert_eq!(answer(&[&text, surplus].concat()), 41, "{surplus:?} at the end");
     }
     assert_eq!(answer(&[&text[..], &text].concat()), 41);
@@ -366,7 +378,7 @@ fn malformed_records() {
 
 #[test]
 fn malformed_flags_and_command() {
-    for name in ["OVERRIDE", "BUTTON", "RELEASE", "ARMED"] {
+    for name in ["OVERRIDE", "BUTTON", "RELEASE", "ARMED", "WAKE_PIN"] {
         for value in ["2", "9", "A", "F", "00", "01", "10", "true"] {
             assert_eq!(answer(&with(FULL, &[(name, value)])), 41, "{name} {value}");
         }
@@ -453,15 +465,17 @@ fn order_of_refusals() {
         let text = with(FULL, &[("edition", edition), ("FLAGS", flags), ("STATE", state)]);
         answer(&text)
     };
-    assert_eq!(all("1", "00004000", "0"), 0);
-    assert_eq!(all("1", "00104000", "0"), 42);
-    assert_eq!(all("1", "00104000", "6"), 42);
+    assert_eq!(all("2", "00004000", "0"), 0);
+    assert_eq!(all("2", "00104000", "0"), 42);
+    assert_eq!(all("2", "00104000", "6"), 42);
     // Malformed after the illegal record, and before it.
-    assert_eq!(all("1", "00104000", "x"), 41);
-    assert_eq!(all("1", "0010400x", "6"), 41);
-    assert_eq!(all("2", "00104000", "0"), 40);
-    assert_eq!(all("2", "0000400x", "0"), 40);
-    assert_eq!(all("2", "00104000", "x"), 40);
+    assert_eq!(all("2", "00104000", "x"), 41);
+    assert_eq!(all("2", "0010400x", "6"), 41);
+    assert_eq!(all("3", "00104000", "0"), 40);
+    assert_eq!(all("3", "0000400x", "0"), 40);
+    assert_eq!(all("3", "00104000", "x"), 40);
+    // A surplus WAKE_PIN is malformed whatever it says.
+    assert_eq!(all("1", "00000000", "0"), 41);
     let illegal = with(FULL, &[("STATE", "6")]);
     assert_eq!(answer(&illegal[..illegal.len() - 1]), 41);
     assert_eq!(answer(&[&illegal[..], b"\n"].concat()), 41);
@@ -651,7 +665,7 @@ fn rules_11_and_12() {
         assert_eq!(answer(&control), 42, "control home {bit} without B");
     }
     // Homes of what is not fitted are allowed, and kept.
-    let unfitted = [("FLAGS", "00000070"), ("EVENT_HOMES", "4700"), ("BUTTON", "0")];
+    let unfitted = [("FLAGS", "00000070"), ("EVENT_HOMES", "4700"), ("BUTTON", "0"), ("WAKE_PIN", "0")];
     assert_eq!(answer(&with(FULL, &[&no_cells[..], &unfitted].concat())), 0);
     assert_eq!(answer(&with(FULL, &[&no_cells[..], &[("EVENT_HOMES", "C731")]].concat())), 0);
     let no_event_b = [("PM1b_EVT_BLK", "0000000000000000"), ("EVENT_HOMES", "0000")];
@@ -722,7 +736,7 @@ fn bits() {
     // The same bits with each event unfitted: the flag, the bit; and the timer.
     for (flags, bit) in [("00004010", 8), ("00004020", 9), ("00004040", 10), ("00000000", 14)] {
         let none = [("FLAGS", flags), ("BUTTON", "0"), ("PM1a_STS", "0000"), ("PM1b_STS", "0000"), ("PM1a_EN", "0000")];
-        let none = [&none[..], &[("PM1b_EN", "0000")]].concat();
+        let none = [&none[..], &[("PM1b_EN", "0000"), ("WAKE_PIN", "0")]].concat();
         assert_eq!(answer(&with(FULL, &none)), 0);
         let (value, block) = (format!("{:04X}", 1 << bit), if bit == 10 { 'b' } else { 'a' });
         for register in ["STS", "EN"] {
@@ -837,4 +851,95 @@ fn button_command_arming_and_slp_typ() {
     // The event block of B does not count for arming.
     let no_event_b = [("PM1b_EVT_BLK", "0000000000000000"), ("EVENT_HOMES", "0000"), ("PM1b_STS", "0000")];
     assert_eq!(answer(&with(FULL, &[&no_event_b[..], &[("PM1b_EN", "0000"), ("ARMED", "1")]].concat())), 0);
+}
+
+/// Request W3: "active only where fitted", in every state and whatever bit 14 is.
+#[test]
+fn wake_pin() {
+    let unfitted = [("FLAGS", "00000000"), ("PM1a_EN", "0321")];
+    for state in ["0", "1", "3", "4", "5"] {
+        for pin in ["0", "1"] {
+            let records = [("STATE", state), ("WAKE_PIN", pin)];
+            assert_eq!(answer(&with(FULL, &records)), 0, "{records:?}");
+            let number = if pin == "1" { 42 } else { 0 };
+            assert_eq!(answer(&with(FULL, &[&unfitted[..], &records].concat())), number, "{records:?}, not fitted");
+        }
+    }
+    check(
+        FULL,
+        &[
+            (0, &[("PM1a_STS", "C120"), ("WAKE_PIN", "1")]),
+            (0, &[("PM1a_STS", "C120"), ("WAKE_PIN", "0")]),
+            (0, &[("PM1a_STS", "8120"), ("WAKE_PIN", "0")]),
+            (0, &[("PM1a_EN", "0321"), ("WAKE_PIN", "1")]),
+            (0, &[("PM1a_EN", "0321"), ("WAKE_PIN", "0")]),
+        ],
+    );
+    check(LEAST, &[(42, &[("WAKE_PIN", "1")]), (0, &[("FLAGS", "00004070"), ("WAKE_PIN", "1")])]);
+}
+
+/// The text of edition 2 in edition 1.
+fn edition_1(text: &[u8]) -> Vec<u8> {
+    let text = String::from_utf8(text.to_vec()).unwrap();
+    text.replace("edition\t2\n", "edition\t1\n").replace("WAKE_PIN\t0\n", "").replace("WAKE_PIN\t1\n", "").into_bytes()
+}
+
+/// Edition 1 has no WAKE_PIN: the pin is inactive, and the machine is written in edition 2.
+#[test]
+fn edition_1_read() {
+    for text in [FULL, LEAST] {
+        let inactive = with(text, &[("WAKE_PIN", "0")]);
+        let machine = read(&edition_1(&inactive)).expect("a legal text");
+        assert!(!machine.pin);
+        assert_eq!(read(&inactive).as_ref(), Ok(&machine));
+        assert_eq!(write(&machine), inactive);
+    }
+    // WAKE_PIN in edition 1, and none in edition 2.
+    let text = edition_1(&tabbed(FULL));
+    let lines: Vec<&[u8]> = text.split_inclusive(|byte| *byte == b'\n').collect();
+    assert_eq!(lines.len(), RECORDS);
+    for at in 1..=lines.len() {
+        for pin in [&b"WAKE_PIN\t0\n"[..], b"WAKE_PIN\t1\n", b"WAKE_PIN\t\n"] {
+            let mut changed = lines.clone();
+            changed.insert(at, pin);
+            assert_eq!(answer(&changed.concat()), 41, "WAKE_PIN before line {at}");
+        }
+        if at < lines.len() {
+            let mut changed = lines.clone();
+            changed.remove(at);
+            assert_eq!(answer(&changed.concat()), 41, "line {at} missing");
+        }
+    }
+    assert_eq!(answer(&[b"edition\t2\n", &lines[1..].concat()[..]].concat()), 41);
+    assert_eq!(answer(&[b"edition\t3\n", &lines[1..].concat()[..]].concat()), 40);
+    // The rest is judged as in edition 2.
+    for (number, records) in [
+        (41, [("STATE", "x"), ("WAKE_PIN", "0")]),
+        (42, [("STATE", "2"), ("WAKE_PIN", "0")]),
+        (42, [("FLAGS", "00000000"), ("WAKE_PIN", "0")]),
+        (42, [("HOLD", "00DA7A64"), ("WAKE_PIN", "0")]),
+    ] {
+        assert_eq!(answer(&edition_1(&with(FULL, &records))), number, "{records:?}");
+    }
+}
+
+/// `tests/texts`: the texts of older editions, each beside the text that it is written again as.
+#[test]
+fn kept_texts() {
+    let folder = Path::new(env!("CARGO_MANIFEST_DIR")).join("../texts/edition-1");
+    let mut names = Vec::new();
+    for entry in fs::read_dir(&folder).unwrap().map(|entry| entry.unwrap().path()) {
+        if entry.extension().is_some() {
+            continue;
+        }
+        let text = fs::read(&entry).unwrap();
+        assert!(text.starts_with(b"edition\t1\n"), "{}", entry.display());
+        let machine = read(&text).unwrap_or_else(|number| panic!("{}: {number}", entry.display()));
+        assert!(!machine.pin);
+        let now = fs::read_to_string(entry.with_extension("now")).unwrap();
+        assert_eq!(String::from_utf8(write(&machine)).unwrap(), now, "{}", entry.display());
+        assert_eq!(answer(now.as_bytes()), 0);
+        names.push(entry);
+    }
+    assert!(names.len() >= 4, "{names:?}");
 }

@@ -92,7 +92,11 @@ fn read_step(line: &[u8]) -> Option<Step> {
         b"release" => Step::Release,
         b"sleep" => Step::Sleep,
         b"alarm" => Step::Alarm,
-        b"wake" => Step::Wake,
+        b"pin" => match fields.next()? {
+            b"0" => Step::PinInactive,
+            b"1" => Step::PinActive,
+            _ => return None,
+        },
         b"master" => Step::Master,
         b"unlock" => Step::Unlock,
         b"event" => Step::Event(number32(fields.next()?)?),

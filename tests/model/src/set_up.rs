@@ -246,6 +246,7 @@ fn power_on(hardware: Hardware) -> Machine {
         arb_dis: false,
         armed: false,
         state: 0,
+        pin: false,
         counter: 0,
         down: false,
         hold: 0,

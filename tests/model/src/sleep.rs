@@ -57,7 +57,7 @@ impl Machine {
         self.status |= WAK;
     }
 
-    /// From S5, by a press: the counter is kept, and WAK not set.
+    /// From S5, by a press: the counter and the wake pin are kept, and WAK not set.
     pub(crate) fn restart(&mut self) {
         self.status = 0;
         self.enable = 0;

@@ -19,8 +19,9 @@ pub enum Step {
     /// The sleep button is pressed.
     Sleep,
     Alarm,
-    /// PCIe wake.
-    Wake,
+    /// The wake pin becomes active.
+    PinActive,
+    PinInactive,
     /// Bus-master event.
     Master,
     /// The global lock is released.
@@ -44,7 +45,8 @@ impl Machine {
             Step::Release => self.release_button().map(|()| 0),
             Step::Sleep => self.signal(SLPBTN).map(|()| 0),
             Step::Alarm => self.signal(RTC).map(|()| 0),
-            Step::Wake => self.pcie_wake().map(|()| 0),
+            Step::PinActive => self.move_pin(true).map(|()| 0),
+            Step::PinInactive => self.move_pin(false).map(|()| 0),
             Step::Master => self.raise(BM).map(|()| 0),
             Step::Unlock => self.raise(GBL).map(|()| 0),
             Step::Event(number) => self.general_event(number).map(|()| 0),

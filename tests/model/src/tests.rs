@@ -1,4 +1,5 @@
-//! Document 01's worked session and its "Values on each side"; and that ticks at once are ticks one by one.
+//! Document 01's worked session and its "Values on each side"; that ticks at once are ticks one by one; and request W3's
+//! wake pin.
 
 use crate::*;
 
@@ -147,4 +148,111 @@ fn ticks_at_once_are_ticks() {
         assert_eq!(singly.tick_singly(n), at_once.tick_at_once(n));
         assert_eq!(singly, at_once);
     }
+}
+
+/// All event bits fitted, bit 14 at B where that is said; S3 is 5, 2.
+fn with_pin(event_homes: u16) -> Machine {
+    let mut states = [None; 6];
+    (states[3], states[5]) = (Some((5, 2)), Some((7, 0)));
+    let settings = Settings { event_homes, control_homes: 0, power_override: true, states };
+    set_up(&table(1 << 14), &settings).unwrap()
+}
+
+fn to_sleep(machine: &mut Machine, a: u64, b: u64) {
+    for (port, data) in [(CONTROL, 0x2000 | a << 10), (CONTROL + 0x40, 0x2000 | b << 10)] {
+        assert_eq!(machine.step(&Step::Write { port, width: 2, data }), (0, 0));
+    }
+}
+
+#[test]
+fn pin_wakes() {
+    let mut machine = with_pin(0);
+    assert!(!machine.pin);
+    to_sleep(&mut machine, 5, 2);
+    assert_eq!(machine.step(&Step::PinInactive), (30, 0));
+    assert_eq!(machine.step(&Step::PinActive), (0, 0));
+    assert_eq!((machine.state, machine.status, machine.pin), (0, PCIEXP_WAKE | WAK, true));
+    assert_eq!(machine.step(&Step::PinActive), (30, 0));
+    // Asleep again with the pin active: it stays so, until another source wakes it.
+    to_sleep(&mut machine, 5, 2);
+    assert_eq!(machine.state, 3);
+    assert_eq!(machine.step(&Step::PinActive), (30, 0));
+    assert_eq!(machine.step(&Step::Press), (0, 0));
+    assert_eq!((machine.state, machine.status, machine.pin), (0, PCIEXP_WAKE | WAK | PWRBTN, true));
+    // Inactive, it clears nothing.
+    assert_eq!(machine.step(&Step::PinInactive), (0, 0));
+    assert_eq!((machine.status, machine.pin), (PCIEXP_WAKE | WAK | PWRBTN, false));
+}
+
+#[test]
+fn pin_level_alone() {
+    for state in [0, 5] {
+        let mut machine = with_pin(0);
+        machine.state = state;
+        for (step, pin) in [(Step::PinActive, true), (Step::PinInactive, false)] {
+            assert_eq!(machine.step(&step), (0, 0));
+            assert_eq!(machine.step(&step), (30, 0));
+            assert_eq!((machine.state, machine.status, machine.pin), (state, 0, pin));
+        }
+    }
+    let mut machine = with_pin(0);
+    machine.enable = PCIEXP_WAKE;
+    to_sleep(&mut machine, 5, 2);
+    assert_eq!(machine.step(&Step::PinActive), (0, 0));
+    assert_eq!((machine.state, machine.status, machine.pin), (3, 0, true));
+    assert_eq!(machine.step(&Step::PinInactive), (0, 0));
+    assert_eq!((machine.state, machine.status, machine.pin), (3, 0, false));
+}
+
+#[test]
+fn pin_not_fitted() {
+    let settings = Settings { event_homes: 0, control_homes: 0, power_override: true, states: [None; 6] };
+    let mut machine = set_up(&table(0), &settings).unwrap();
+    for state in 0..=5 {
+        machine.state = state;
+        assert_eq!(machine.step(&Step::PinActive), (28, 0));
+        assert_eq!(machine.step(&Step::PinInactive), (28, 0));
+    }
+}
+
+/// Bit 14, at A and at B: a one written to it clears it only with the pin inactive; the other bits act as before.
+#[test]
+fn pin_and_clearing() {
+    for (homes, home, away) in [(0, EVENT, EVENT + 0x40), (PCIEXP_WAKE | WAK, EVENT + 0x40, EVENT)] {
+        for (offset, width, data, cleared) in [
+            (0, 2, 0xFFFF, 0xC000),
+            (0, 2, 0x4000, 0x4000),
+            (1, 1, 0xFF, 0xC000),
+            (1, 1, 0x40, 0x4000),
+            (0, 1, 0xFF, 0),
+            (0, 2, 0x8000, 0x8000),
+        ] {
+            for pin in [true, false] {
+                let mut machine = with_pin(homes);
+                (machine.status, machine.pin) = (0xC000, pin);
+                assert_eq!(machine.step(&Step::Write { port: away + offset, width, data }), (0, 0));
+                assert_eq!(machine.status, 0xC000);
+                assert_eq!(machine.step(&Step::Write { port: home + offset, width, data }), (0, 0));
+                let cleared = if pin { cleared & !PCIEXP_WAKE } else { cleared };
+                assert_eq!(machine.status, 0xC000 & !cleared, "{data:X} at offset {offset}, pin {pin}");
+                assert_eq!(machine.pin, pin);
+            }
+        }
+    }
+}
+
+/// Restart from S5, the override and ACPI_ENABLE leave the pin alone.
+#[test]
+fn pin_kept() {
+    let mut machine = with_pin(0);
+    (machine.status, machine.pin) = (PCIEXP_WAKE, true);
+    machine.step(&Step::Write { port: 0xB2, width: 1, data: 0xE1 });
+    assert_eq!(machine.step(&Step::Take), (0, 0xE1));
+    assert_eq!((machine.status, machine.pin), (PCIEXP_WAKE, true));
+    machine.step(&Step::Press);
+    machine.step(&Step::Tick(HOLD_LIMIT));
+    assert_eq!((machine.state, machine.status, machine.pin), (5, PCIEXP_WAKE | TMR, true));
+    machine.step(&Step::Release);
+    assert_eq!(machine.step(&Step::Press), (0, 0));
+    assert_eq!((machine.state, machine.status, machine.pin), (0, PWRBTN, true));
 }

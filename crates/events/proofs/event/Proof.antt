@@ -1,6 +1,6 @@
 use mathlib.Core.Path.{refl, sym, _∙_}
 use Rattle.events.specs.declared.EventKind.the-variants as kind
-use Rattle.events.proofs.ByKind.{on-machine, noticed, signal-mask, signal-effect, notice-mask, notice-effect, effect-by-kind}
+use Rattle.events.proofs.ByKind.{on-machine, noticed, signal-mask, signal-effect, notice-mask, notice-effect, effect-by-kind, pin-effect}
 use Rattle.model.specs.Effect.{effectOf}
 use borrow.Author.Needs.{needs}
 use Rattle.events.proofs.event.Statement.{statement}
@@ -36,32 +36,32 @@ scalars-requires-3 c κs = search needs
 signal-requires : tie.Need-signal-requires
 signal-requires c κs = signal-mask _ _ (sym (c .before .before .kind .given .1) ∙ c .before .before .before .before .kind-of .ensures)
 
-enum-told-3 : tie.Need-enum-told-3
-enum-told-3 c = search needs
+enum-known-kind-2 : tie.Need-enum-known-kind-2
+enum-known-kind-2 c = search needs
 
 scalars-requires-4 : tie.Need-scalars-requires-4
 scalars-requires-4 c κs = search needs
 
-pcie-wake-requires : tie.Need-pcie-wake-requires
-pcie-wake-requires c κs = search needs
+pin-requires : tie.Need-pin-requires
+pin-requires c κs = search needs
 
-enum-known-kind-2 : tie.Need-enum-known-kind-2
-enum-known-kind-2 c = search needs
+enum-known-kind-3 : tie.Need-enum-known-kind-3
+enum-known-kind-3 c = search needs
 
 scalars-requires-5 : tie.Need-scalars-requires-5
 scalars-requires-5 c κs = search needs
 
 notice-requires : tie.Need-notice-requires
-notice-requires c κs = notice-mask _ _ (sym (c .before .before .kind2 .given .1) ∙ c .before .before .before .before .kind-of .ensures)
+notice-requires c κs = notice-mask _ _ (sym (c .before .before .kind3 .given .1) ∙ c .before .before .before .before .kind-of .ensures)
 
-enum-known-kind-3 : tie.Need-enum-known-kind-3
-enum-known-kind-3 c = search needs
+enum-known-kind-4 : tie.Need-enum-known-kind-4
+enum-known-kind-4 c = search needs
 
 general-requires : tie.Need-general-requires
 general-requires c κs = search needs
 
-enum-known-kind-4 : tie.Need-enum-known-kind-4
-enum-known-kind-4 c = search needs
+enum-known-kind-5 : tie.Need-enum-known-kind-5
+enum-known-kind-5 c = search needs
 
 scalars-requires-6 : tie.Need-scalars-requires-6
 scalars-requires-6 c κs = search needs
@@ -83,22 +83,22 @@ returns-3 c = signal-effect _ _ _ _ (sym (c .before .before .before .kind .given
 
 returns-4 : tie.Need-returns-4
 unfolding effectOf
-returns-4 c = effect-by-kind _ _ _ kind.PcieWake (sym (c .before .before .enum-told3 .given .1) ∙ c .before .before .before .before .kind-of .ensures) (on-machine _ _ _ _ _ refl (c .before .scalars4 .ensures) (c .pcie-wake .ensures))
+returns-4 c = effect-by-kind _ _ _ (kind.Pin _) (sym (c .before .before .before .kind2 .given .1) ∙ c .before .before .before .before .before .kind-of .ensures) (pin-effect _ _ _ (on-machine _ _ _ _ _ refl (c .before .scalars4 .ensures) (c .pin .ensures)))
 
 returns-5 : tie.Need-returns-5
 unfolding effectOf
 returns-5 c =
-    notice-effect _ _ _ _ (sym (c .before .before .before .kind2 .given .1) ∙ c .before .before .before .before .before .kind-of .ensures)
+    notice-effect _ _ _ _ (sym (c .before .before .before .kind3 .given .1) ∙ c .before .before .before .before .before .kind-of .ensures)
     (noticed _ _ _ _ (c .before .scalars5 .ensures) (c .notice .ensures))
 
 returns-6 : tie.Need-returns-6
 unfolding effectOf
-returns-6 c = effect-by-kind _ _ _ (kind.General _) (sym (c .before .before .kind3 .given .1) ∙ c .before .before .before .before .kind-of .ensures) (c .general .ensures)
+returns-6 c = effect-by-kind _ _ _ (kind.General _) (sym (c .before .before .kind4 .given .1) ∙ c .before .before .before .before .kind-of .ensures) (c .general .ensures)
 
 returns-7 : tie.Need-returns-7
 unfolding effectOf
 returns-7 c =
-    effect-by-kind _ _ _ (kind.Ticks _) (sym (c .before .before .before .kind4 .given .1) ∙ c .before .before .before .before .before .kind-of .ensures)
+    effect-by-kind _ _ _ (kind.Ticks _) (sym (c .before .before .before .kind5 .given .1) ∙ c .before .before .before .before .before .kind-of .ensures)
     (on-machine _ _ _ _ _ refl (c .before .scalars6 .ensures) (c .ticks .ensures))
 
 pub event-spec : {M : Type 1} → statement M
@@ -115,15 +115,15 @@ event-spec =
     enum-known-kind
     scalars-requires-3
     signal-requires
-    enum-told-3
-    scalars-requires-4
-    pcie-wake-requires
     enum-known-kind-2
+    scalars-requires-4
+    pin-requires
+    enum-known-kind-3
     scalars-requires-5
     notice-requires
-    enum-known-kind-3
-    general-requires
     enum-known-kind-4
+    general-requires
+    enum-known-kind-5
     scalars-requires-6
     ticks-requires
     returns

@@ -27,11 +27,14 @@ enum-told-5 c = search needs
 enum-told-6 : tie.Need-enum-told-6
 enum-told-6 c = search needs
 
+enum-told-7 : tie.Need-enum-told-7
+enum-told-7 c = search needs
+
 status-bit-requires-3 : tie.Need-status-bit-requires-3
 status-bit-requires-3 c κs = search needs
 
-enum-told-7 : tie.Need-enum-told-7
-enum-told-7 c = search needs
+enum-told-8 : tie.Need-enum-told-8
+enum-told-8 c = search needs
 
 status-bit-requires-4 : tie.Need-status-bit-requires-4
 status-bit-requires-4 c κs = search needs
@@ -64,19 +67,23 @@ returns-5 c = simp (c .enum-told5 .given .1)
 
 returns-6 : tie.Need-returns-6
 unfolding kindOf
-returns-6 c = simp (c .status-bit3 .ensures, c .before .enum-told6 .given .1)
+returns-6 c = simp (c .enum-told6 .given .1)
 
 returns-7 : tie.Need-returns-7
 unfolding kindOf
-returns-7 c = simp (c .status-bit4 .ensures, c .before .enum-told7 .given .1)
+returns-7 c = simp (c .status-bit3 .ensures, c .before .enum-told7 .given .1)
 
 returns-8 : tie.Need-returns-8
 unfolding kindOf
-returns-8 c = simp (c .before .e .given .1)
+returns-8 c = simp (c .status-bit4 .ensures, c .before .enum-told8 .given .1)
 
 returns-9 : tie.Need-returns-9
 unfolding kindOf
-returns-9 c = simp (c .before .e2 .given .1)
+returns-9 c = simp (c .before .e .given .1)
+
+returns-10 : tie.Need-returns-10
+unfolding kindOf
+returns-10 c = simp (c .before .e2 .given .1)
 
 pub kind-of-spec : {M : Type 1} → statement M
 kind-of-spec =
@@ -90,8 +97,9 @@ kind-of-spec =
     status-bit-requires-2
     enum-told-5
     enum-told-6
-    status-bit-requires-3
     enum-told-7
+    status-bit-requires-3
+    enum-told-8
     status-bit-requires-4
     enum-known-e
     enum-known-e-2
@@ -103,4 +111,5 @@ kind-of-spec =
     returns-6
     returns-7
     returns-8
-    returns-9)
+    returns-9
+    returns-10)

@@ -12,9 +12,6 @@ use Rattle.firmware.proofs.take.Tie as tie
 awake-requires : tie.Need-awake-requires
 awake-requires c κs = search needs
 
-wide-requires : tie.Need-wide-requires
-wide-requires c κs = search needs
-
 take-command-requires : tie.Need-take-command-requires
 take-command-requires c κs = search needs
 
@@ -29,7 +26,7 @@ unmoved-requires-2 c κs = search needs
 
 returns : tie.Need-returns
 unfolding awake effectOf answerTo firstApplying
-returns c = simp (c .done .ensures, c .before .take-command .ensures, c .before .before .wide .ensures, c .before .before .before .if2 .taken, sym (c .before .before .before .before .before .awake .ensures) ∙ c .before .before .before .before .if1 .taken)
+returns c = simp (c .done .ensures, c .before .take-command .ensures, c .before .before .if2 .taken, sym (c .before .before .before .before .awake .ensures) ∙ c .before .before .before .if1 .taken)
 
 returns-2 : tie.Need-returns-2
 unfolding awake answerTo firstApplying
@@ -46,7 +43,6 @@ take-spec =
     tie.close
     (tie.spec
     awake-requires
-    wide-requires
     take-command-requires
     done-requires
     unmoved-requires

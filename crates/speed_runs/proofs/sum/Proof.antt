@@ -3,8 +3,8 @@ use borrow.Author.Needs.{needs}
 use Rattle.speed_runs.proofs.sum.Statement.{statement}
 use Rattle.speed_runs.proofs.sum.Tie as tie
 
-cast-wrapping-add-u64 : tie.Need-cast-wrapping-add-u64
-cast-wrapping-add-u64 c = search needs
+wide16-requires : tie.Need-wide16-requires
+wide16-requires c κs = search needs
 
 wrapping-add-u64-requires : tie.Need-wrapping-add-u64-requires
 wrapping-add-u64-requires c κs = search needs
@@ -17,13 +17,13 @@ wrapping-add-u64-requires-2 c κs = search needs
 
 returns : tie.Need-returns
 unfolding sumOf
-returns c = simp (c .wrapping-add-u642 .ensures, c .before .wide .ensures, c .before .before .wrapping-add-u64 .ensures)
+returns c = simp (c .wrapping-add-u642 .ensures, c .before .wide .ensures, c .before .before .wrapping-add-u64 .ensures, c .before .before .before .wide16 .ensures)
 
 pub sum-spec : {M : Type 1} → statement M
 sum-spec =
     tie.close
     (tie.spec
-    cast-wrapping-add-u64
+    wide16-requires
     wrapping-add-u64-requires
     wide-requires
     wrapping-add-u64-requires-2

@@ -23,9 +23,6 @@ returns c =
 scalars-requires-2 : tie.Need-scalars-requires-2
 scalars-requires-2 c κs = search needs
 
-low-byte-requires : tie.Need-low-byte-requires
-low-byte-requires c κs = search needs
-
 latch-requires : tie.Need-latch-requires
 latch-requires c κs = search needs
 
@@ -112,9 +109,9 @@ unmoved-requires-3 c κs = search needs
 
 returns-2 : tie.Need-returns-2
 returns-2 c =
-    let at : _ = c .before .before .before .before .before .before .before .before in
-    at-register (at .args .m) (at .args .width) (at .args .offset) (at .args .written) _ _ _ (c .before .before .before .before .before .enum-told .given .1) (at .pre)
-    (smi-takes (at .args .m) (at .args .width) (at .args .offset) (at .args .written) _ (c .before .before .before .before .if1 .left) (simp (c .done .ensures, c .before .latch .ensures, c .before .before .low-byte .ensures, c .before .before .before .scalars2 .ensures)))
+    let at : _ = c .before .before .before .before .before .before .before in
+    at-register (at .args .m) (at .args .width) (at .args .offset) (at .args .written) _ _ _ (c .before .before .before .before .enum-told .given .1) (at .pre)
+    (smi-takes (at .args .m) (at .args .width) (at .args .offset) (at .args .written) _ (c .before .before .before .if1 .left) (simp (c .done .ensures, c .before .latch .ensures, c .before .before .scalars2 .ensures)))
 
 returns-3 : tie.Need-returns-3
 returns-3 c =
@@ -176,7 +173,6 @@ write-cells-spec =
     unmoved-requires
     returns
     scalars-requires-2
-    low-byte-requires
     latch-requires
     done-requires
     enum-known-r

@@ -30,7 +30,7 @@ returns : tie.Need-returns
 unfolding firstApplying
 returns c =
     c .unmoved .ensures
-    ∙ sym (event-refused _ _ _ answer.ButtonAlready (simp (c .before .if2 .taken, sym (c .before .before .before .fits2 .ensures) ∙ c .before .before .if1 .taken)) refl)
+    ∙ sym (event-refused _ _ _ answer.AlreadySo (simp (c .before .if2 .taken, sym (c .before .before .before .fits2 .ensures) ∙ c .before .before .if1 .taken)) refl)
 
 returns-2 : tie.Need-returns-2
 unfolding eventEffect firstApplying pressEffect

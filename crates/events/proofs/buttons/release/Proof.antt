@@ -31,7 +31,7 @@ returns-2 : tie.Need-returns-2
 unfolding firstApplying
 returns-2 c =
     c .unmoved .ensures
-    ∙ sym (event-refused _ _ _ answer.ButtonAlready (simp (c .before .if2 .left, sym (c .before .before .before .fits2 .ensures) ∙ c .before .before .if1 .taken)) refl)
+    ∙ sym (event-refused _ _ _ answer.AlreadySo (simp (c .before .if2 .left, sym (c .before .before .before .fits2 .ensures) ∙ c .before .before .if1 .taken)) refl)
 
 returns-3 : tie.Need-returns-3
 unfolding eventEffect firstApplying releaseEffect

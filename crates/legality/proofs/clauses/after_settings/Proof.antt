@@ -33,57 +33,63 @@ command-legal-requires c κs = search needs
 unless-requires-5 : tie.Need-unless-requires-5
 unless-requires-5 c κs = search needs
 
-button-legal-requires : tie.Need-button-legal-requires
-button-legal-requires c κs = search needs
+wake-pin-legal-requires : tie.Need-wake-pin-legal-requires
+wake-pin-legal-requires c κs = search needs
 
 unless-requires-6 : tie.Need-unless-requires-6
 unless-requires-6 c κs = search needs
 
-hold-legal-requires : tie.Need-hold-legal-requires
-hold-legal-requires c κs = search needs
+button-legal-requires : tie.Need-button-legal-requires
+button-legal-requires c κs = search needs
 
 unless-requires-7 : tie.Need-unless-requires-7
 unless-requires-7 c κs = search needs
 
-counter-legal-requires : tie.Need-counter-legal-requires
-counter-legal-requires c κs = search needs
+hold-legal-requires : tie.Need-hold-legal-requires
+hold-legal-requires c κs = search needs
 
 unless-requires-8 : tie.Need-unless-requires-8
 unless-requires-8 c κs = search needs
 
-state-legal-requires : tie.Need-state-legal-requires
-state-legal-requires c κs = search needs
+counter-legal-requires : tie.Need-counter-legal-requires
+counter-legal-requires c κs = search needs
 
 unless-requires-9 : tie.Need-unless-requires-9
 unless-requires-9 c κs = search needs
 
-arb-dis-legal-requires : tie.Need-arb-dis-legal-requires
-arb-dis-legal-requires c κs = search needs
+state-legal-requires : tie.Need-state-legal-requires
+state-legal-requires c κs = search needs
 
 unless-requires-10 : tie.Need-unless-requires-10
 unless-requires-10 c κs = search needs
 
-gpe-legal-requires : tie.Need-gpe-legal-requires
-gpe-legal-requires c κs = search needs
+arb-dis-legal-requires : tie.Need-arb-dis-legal-requires
+arb-dis-legal-requires c κs = search needs
 
 unless-requires-11 : tie.Need-unless-requires-11
 unless-requires-11 c κs = search needs
 
-enables-legal-requires : tie.Need-enables-legal-requires
-enables-legal-requires c κs = search needs
+gpe-legal-requires : tie.Need-gpe-legal-requires
+gpe-legal-requires c κs = search needs
 
 unless-requires-12 : tie.Need-unless-requires-12
 unless-requires-12 c κs = search needs
 
-status-legal-requires : tie.Need-status-legal-requires
-status-legal-requires c κs = search needs
+enables-legal-requires : tie.Need-enables-legal-requires
+enables-legal-requires c κs = search needs
 
 unless-requires-13 : tie.Need-unless-requires-13
 unless-requires-13 c κs = search needs
 
+status-legal-requires : tie.Need-status-legal-requires
+status-legal-requires c κs = search needs
+
+unless-requires-14 : tie.Need-unless-requires-14
+unless-requires-14 c κs = search needs
+
 returns : tie.Need-returns
 unfolding afterSettings
-returns c = simp (c .unless13 .ensures, c .before .status-legal .ensures, c .before .before .unless12 .ensures, c .before .before .before .enables-legal .ensures, c .before .before .before .before .unless11 .ensures, c .before .before .before .before .before .gpe-legal .ensures, c .before .before .before .before .before .before .unless10 .ensures, c .before .before .before .before .before .before .before .arb-dis-legal .ensures, c .before .before .before .before .before .before .before .before .unless9 .ensures, c .before .before .before .before .before .before .before .before .before .state-legal .ensures, c .before .before .before .before .before .before .before .before .before .before .unless8 .ensures, c .before .before .before .before .before .before .before .before .before .before .before .counter-legal .ensures, c .before .before .before .before .before .before .before .before .before .before .before .before .unless7 .ensures, c .before .before .before .before .before .before .before .before .before .before .before .before .before .hold-legal .ensures, c .before .before .before .before .before .before .before .before .before .before .before .before .before .before .unless6 .ensures, c .before .before .before .before .before .before .before .before .before .before .before .before .before .before .before .button-legal .ensures, c .before .before .before .before .before .before .before .before .before .before .before .before .before .before .before .before .unless5 .ensures, c .before .before .before .before .before .before .before .before .before .before .before .before .before .before .before .before .before .command-legal .ensures, c .before .before .before .before .before .before .before .before .before .before .before .before .before .before .before .before .before .before .unless4 .ensures, c .before .before .before .before .before .before .before .before .before .before .before .before .before .before .before .before .before .before .before .armed-legal .ensures, c .before .before .before .before .before .before .before .before .before .before .before .before .before .before .before .before .before .before .before .before .unless3 .ensures, c .before .before .before .before .before .before .before .before .before .before .before .before .before .before .before .before .before .before .before .before .before .slp-typ-b-legal .ensures, c .before .before .before .before .before .before .before .before .before .before .before .before .before .before .before .before .before .before .before .before .before .before .unless2 .ensures, c .before .before .before .before .before .before .before .before .before .before .before .before .before .before .before .before .before .before .before .before .before .before .before .one-value .ensures, c .before .before .before .before .before .before .before .before .before .before .before .before .before .before .before .before .before .before .before .before .before .before .before .before .unless .ensures, c .before .before .before .before .before .before .before .before .before .before .before .before .before .before .before .before .before .before .before .before .before .before .before .before .before .gpe-pending-legal .ensures)
+returns c = simp (c .unless14 .ensures, c .before .status-legal .ensures, c .before .before .unless13 .ensures, c .before .before .before .enables-legal .ensures, c .before .before .before .before .unless12 .ensures, c .before .before .before .before .before .gpe-legal .ensures, c .before .before .before .before .before .before .unless11 .ensures, c .before .before .before .before .before .before .before .arb-dis-legal .ensures, c .before .before .before .before .before .before .before .before .unless10 .ensures, c .before .before .before .before .before .before .before .before .before .state-legal .ensures, c .before .before .before .before .before .before .before .before .before .before .unless9 .ensures, c .before .before .before .before .before .before .before .before .before .before .before .counter-legal .ensures, c .before .before .before .before .before .before .before .before .before .before .before .before .unless8 .ensures, c .before .before .before .before .before .before .before .before .before .before .before .before .before .hold-legal .ensures, c .before .before .before .before .before .before .before .before .before .before .before .before .before .before .unless7 .ensures, c .before .before .before .before .before .before .before .before .before .before .before .before .before .before .before .button-legal .ensures, c .before .before .before .before .before .before .before .before .before .before .before .before .before .before .before .before .unless6 .ensures, c .before .before .before .before .before .before .before .before .before .before .before .before .before .before .before .before .before .wake-pin-legal .ensures, c .before .before .before .before .before .before .before .before .before .before .before .before .before .before .before .before .before .before .unless5 .ensures, c .before .before .before .before .before .before .before .before .before .before .before .before .before .before .before .before .before .before .before .command-legal .ensures, c .before .before .before .before .before .before .before .before .before .before .before .before .before .before .before .before .before .before .before .before .unless4 .ensures, c .before .before .before .before .before .before .before .before .before .before .before .before .before .before .before .before .before .before .before .before .before .armed-legal .ensures, c .before .before .before .before .before .before .before .before .before .before .before .before .before .before .before .before .before .before .before .before .before .before .unless3 .ensures, c .before .before .before .before .before .before .before .before .before .before .before .before .before .before .before .before .before .before .before .before .before .before .before .slp-typ-b-legal .ensures, c .before .before .before .before .before .before .before .before .before .before .before .before .before .before .before .before .before .before .before .before .before .before .before .before .unless2 .ensures, c .before .before .before .before .before .before .before .before .before .before .before .before .before .before .before .before .before .before .before .before .before .before .before .before .before .one-value .ensures, c .before .before .before .before .before .before .before .before .before .before .before .before .before .before .before .before .before .before .before .before .before .before .before .before .before .before .unless .ensures, c .before .before .before .before .before .before .before .before .before .before .before .before .before .before .before .before .before .before .before .before .before .before .before .before .before .before .before .gpe-pending-legal .ensures)
 
 pub after-settings-spec : {M : Type 1} → statement M
 after-settings-spec =
@@ -99,20 +105,22 @@ after-settings-spec =
     unless-requires-4
     command-legal-requires
     unless-requires-5
-    button-legal-requires
+    wake-pin-legal-requires
     unless-requires-6
-    hold-legal-requires
+    button-legal-requires
     unless-requires-7
-    counter-legal-requires
+    hold-legal-requires
     unless-requires-8
-    state-legal-requires
+    counter-legal-requires
     unless-requires-9
-    arb-dis-legal-requires
+    state-legal-requires
     unless-requires-10
-    gpe-legal-requires
+    arb-dis-legal-requires
     unless-requires-11
-    enables-legal-requires
+    gpe-legal-requires
     unless-requires-12
-    status-legal-requires
+    enables-legal-requires
     unless-requires-13
+    status-legal-requires
+    unless-requires-14
     returns)

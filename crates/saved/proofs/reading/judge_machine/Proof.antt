@@ -1,5 +1,6 @@
 use mathlib.Core.Path.{_≡_}
 use lib.ListN.{length}
+use Rattle.records.specs.Rows.{rowCount}
 use Rattle.values.specs.Values.{valuesOf}
 use Rattle.values.proofs.Agreeing.{agree-first}
 use Rattle.saved.proofs.Judged.{legal-answer}
@@ -28,7 +29,7 @@ enum-known-legality c = search needs
 returns : tie.Need-returns
 returns c =
     let start : _ = c .before .before .before .before .before in
-    let long : length (start .args .values) ≡ 42 = search needs in
+    let long : length (start .args .values) ≡ rowCount = search needs in
     legal-answer (start .args .m) (start .args .values) long (sym (c .before .before .before .before .judge .ensures) ∙ c .before .before .enum-told .given .1) _ (c .before .first-stray .ensures) _ (c .judge-values .ensures)
 
 returns-2 : tie.Need-returns-2

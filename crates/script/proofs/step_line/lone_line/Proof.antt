@@ -84,19 +84,9 @@ returns-8 : tie.Need-returns-8
 unfolding loneLine
 returns-8 c = simp (sym (c .before .same8 .ensures) ∙ c .if8 .taken, sym (c .before .before .before .before .same7 .ensures) ∙ c .before .before .before .if7 .left, sym (c .before .before .before .before .before .before .before .same6 .ensures) ∙ c .before .before .before .before .before .before .if6 .left, sym (c .before .before .before .before .before .before .before .before .before .before .same5 .ensures) ∙ c .before .before .before .before .before .before .before .before .before .if5 .left, sym (c .before .before .before .before .before .before .before .before .before .before .before .before .before .same4 .ensures) ∙ c .before .before .before .before .before .before .before .before .before .before .before .before .if4 .left, sym (c .before .before .before .before .before .before .before .before .before .before .before .before .before .before .before .before .same3 .ensures) ∙ c .before .before .before .before .before .before .before .before .before .before .before .before .before .before .before .if3 .left, sym (c .before .before .before .before .before .before .before .before .before .before .before .before .before .before .before .before .before .before .before .same2 .ensures) ∙ c .before .before .before .before .before .before .before .before .before .before .before .before .before .before .before .before .before .before .if2 .left, sym (c .before .before .before .before .before .before .before .before .before .before .before .before .before .before .before .before .before .before .before .before .before .before .same .ensures) ∙ c .before .before .before .before .before .before .before .before .before .before .before .before .before .before .before .before .before .before .before .before .before .if1 .left)
 
-slice-aggregate-same-9 : tie.Need-slice-aggregate-same-9
-slice-aggregate-same-9 c = search needs
-
-same-requires-9 : tie.Need-same-requires-9
-same-requires-9 c κs = search needs
-
 returns-9 : tie.Need-returns-9
 unfolding loneLine
-returns-9 c = simp (sym (c .before .same9 .ensures) ∙ c .if9 .taken, sym (c .before .before .before .before .same8 .ensures) ∙ c .before .before .before .if8 .left, sym (c .before .before .before .before .before .before .before .same7 .ensures) ∙ c .before .before .before .before .before .before .if7 .left, sym (c .before .before .before .before .before .before .before .before .before .before .same6 .ensures) ∙ c .before .before .before .before .before .before .before .before .before .if6 .left, sym (c .before .before .before .before .before .before .before .before .before .before .before .before .before .same5 .ensures) ∙ c .before .before .before .before .before .before .before .before .before .before .before .before .if5 .left, sym (c .before .before .before .before .before .before .before .before .before .before .before .before .before .before .before .before .same4 .ensures) ∙ c .before .before .before .before .before .before .before .before .before .before .before .before .before .before .before .if4 .left, sym (c .before .before .before .before .before .before .before .before .before .before .before .before .before .before .before .before .before .before .before .same3 .ensures) ∙ c .before .before .before .before .before .before .before .before .before .before .before .before .before .before .before .before .before .before .if3 .left, sym (c .before .before .before .before .before .before .before .before .before .before .before .before .before .before .before .before .before .before .before .before .before .before .same2 .ensures) ∙ c .before .before .before .before .before .before .before .before .before .before .before .before .before .before .before .before .before .before .before .before .before .if2 .left, sym (c .before .before .before .before .before .before .before .before .before .before .before .before .before .before .before .before .before .before .before .before .before .before .before .before .before .same .ensures) ∙ c .before .before .before .before .before .before .before .before .before .before .before .before .before .before .before .before .before .before .before .before .before .before .before .before .if1 .left)
-
-returns-10 : tie.Need-returns-10
-unfolding loneLine
-returns-10 c = simp (sym (c .before .same9 .ensures) ∙ c .if9 .left, sym (c .before .before .before .before .same8 .ensures) ∙ c .before .before .before .if8 .left, sym (c .before .before .before .before .before .before .before .same7 .ensures) ∙ c .before .before .before .before .before .before .if7 .left, sym (c .before .before .before .before .before .before .before .before .before .before .same6 .ensures) ∙ c .before .before .before .before .before .before .before .before .before .if6 .left, sym (c .before .before .before .before .before .before .before .before .before .before .before .before .before .same5 .ensures) ∙ c .before .before .before .before .before .before .before .before .before .before .before .before .if5 .left, sym (c .before .before .before .before .before .before .before .before .before .before .before .before .before .before .before .before .same4 .ensures) ∙ c .before .before .before .before .before .before .before .before .before .before .before .before .before .before .before .if4 .left, sym (c .before .before .before .before .before .before .before .before .before .before .before .before .before .before .before .before .before .before .before .same3 .ensures) ∙ c .before .before .before .before .before .before .before .before .before .before .before .before .before .before .before .before .before .before .if3 .left, sym (c .before .before .before .before .before .before .before .before .before .before .before .before .before .before .before .before .before .before .before .before .before .before .same2 .ensures) ∙ c .before .before .before .before .before .before .before .before .before .before .before .before .before .before .before .before .before .before .before .before .before .if2 .left, sym (c .before .before .before .before .before .before .before .before .before .before .before .before .before .before .before .before .before .before .before .before .before .before .before .before .before .same .ensures) ∙ c .before .before .before .before .before .before .before .before .before .before .before .before .before .before .before .before .before .before .before .before .before .before .before .before .if1 .left)
+returns-9 c = simp (sym (c .before .same8 .ensures) ∙ c .if8 .left, sym (c .before .before .before .before .same7 .ensures) ∙ c .before .before .before .if7 .left, sym (c .before .before .before .before .before .before .before .same6 .ensures) ∙ c .before .before .before .before .before .before .if6 .left, sym (c .before .before .before .before .before .before .before .before .before .before .same5 .ensures) ∙ c .before .before .before .before .before .before .before .before .before .if5 .left, sym (c .before .before .before .before .before .before .before .before .before .before .before .before .before .same4 .ensures) ∙ c .before .before .before .before .before .before .before .before .before .before .before .before .if4 .left, sym (c .before .before .before .before .before .before .before .before .before .before .before .before .before .before .before .before .same3 .ensures) ∙ c .before .before .before .before .before .before .before .before .before .before .before .before .before .before .before .if3 .left, sym (c .before .before .before .before .before .before .before .before .before .before .before .before .before .before .before .before .before .before .before .same2 .ensures) ∙ c .before .before .before .before .before .before .before .before .before .before .before .before .before .before .before .before .before .before .if2 .left, sym (c .before .before .before .before .before .before .before .before .before .before .before .before .before .before .before .before .before .before .before .before .before .before .same .ensures) ∙ c .before .before .before .before .before .before .before .before .before .before .before .before .before .before .before .before .before .before .before .before .before .if1 .left)
 
 pub lone-line-spec : {M : Type 1} → statement M
 lone-line-spec =
@@ -126,7 +116,4 @@ lone-line-spec =
     slice-aggregate-same-8
     same-requires-8
     returns-8
-    slice-aggregate-same-9
-    same-requires-9
-    returns-9
-    returns-10)
+    returns-9)

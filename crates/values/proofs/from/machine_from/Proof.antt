@@ -65,6 +65,9 @@ array-read-low8 c = search needs
 low8-requires : tie.Need-low8-requires
 low8-requires c κs = search needs
 
+cast-t54 : tie.Need-cast-t54
+cast-t54 c = search needs
+
 array-read-flag-2 : tie.Need-array-read-flag-2
 array-read-flag-2 c = search needs
 
@@ -107,11 +110,17 @@ array-read-low8-2 c = search needs
 low8-requires-2 : tie.Need-low8-requires-2
 low8-requires-2 c κs = search needs
 
+array-read-flag-4 : tie.Need-array-read-flag-4
+array-read-flag-4 c = search needs
+
+flag-requires-4 : tie.Need-flag-requires-4
+flag-requires-4 c κs = search needs
+
 walk-gpe-requires : tie.Need-walk-gpe-requires
 walk-gpe-requires c κs = search needs
 
 returns : tie.Need-returns
-returns c = simp (c .walk-gpe .ensures, c .before .low82 .ensures, c .before .before .bit6 .ensures, c .before .before .before .bit5 .ensures, c .before .before .before .before .bit4 .ensures, c .before .before .before .before .before .bit3 .ensures, c .before .before .before .before .before .before .bit2 .ensures, c .before .before .before .before .before .before .before .slp-typ2 .ensures, c .before .before .before .before .before .before .before .before .slp-typ .ensures, c .before .before .before .before .before .before .before .before .before .flag3 .ensures, c .before .before .before .before .before .before .before .before .before .before .flag2 .ensures, c .before .before .before .before .before .before .before .before .before .before .before .low8 .ensures, c .before .before .before .before .before .before .before .before .before .before .before .before .bit .ensures, c .before .before .before .before .before .before .before .before .before .before .before .before .before .flag .ensures, c .before .before .before .before .before .before .before .before .before .before .before .before .before .before .low322 .ensures, c .before .before .before .before .before .before .before .before .before .before .before .before .before .before .before .low32 .ensures, c .before .before .before .before .before .before .before .before .before .before .before .before .before .before .before .before .low164 .ensures, c .before .before .before .before .before .before .before .before .before .before .before .before .before .before .before .before .before .low163 .ensures, c .before .before .before .before .before .before .before .before .before .before .before .before .before .before .before .before .before .before .low162 .ensures, c .before .before .before .before .before .before .before .before .before .before .before .before .before .before .before .before .before .before .before .low16 .ensures, c .before .before .before .before .before .before .before .before .before .before .before .before .before .before .before .before .before .before .before .before .settings-from .ensures)
+returns c = simp (c .walk-gpe .ensures, c .before .flag4 .ensures, c .before .before .low82 .ensures, c .before .before .before .bit6 .ensures, c .before .before .before .before .bit5 .ensures, c .before .before .before .before .before .bit4 .ensures, c .before .before .before .before .before .before .bit3 .ensures, c .before .before .before .before .before .before .before .bit2 .ensures, c .before .before .before .before .before .before .before .before .slp-typ2 .ensures, c .before .before .before .before .before .before .before .before .before .slp-typ .ensures, c .before .before .before .before .before .before .before .before .before .before .flag3 .ensures, c .before .before .before .before .before .before .before .before .before .before .before .flag2 .ensures, c .before .before .before .before .before .before .before .before .before .before .before .before .low8 .ensures, c .before .before .before .before .before .before .before .before .before .before .before .before .before .bit .ensures, c .before .before .before .before .before .before .before .before .before .before .before .before .before .before .flag .ensures, c .before .before .before .before .before .before .before .before .before .before .before .before .before .before .before .low322 .ensures, c .before .before .before .before .before .before .before .before .before .before .before .before .before .before .before .before .low32 .ensures, c .before .before .before .before .before .before .before .before .before .before .before .before .before .before .before .before .before .low164 .ensures, c .before .before .before .before .before .before .before .before .before .before .before .before .before .before .before .before .before .before .low163 .ensures, c .before .before .before .before .before .before .before .before .before .before .before .before .before .before .before .before .before .before .before .low162 .ensures, c .before .before .before .before .before .before .before .before .before .before .before .before .before .before .before .before .before .before .before .before .low16 .ensures, c .before .before .before .before .before .before .before .before .before .before .before .before .before .before .before .before .before .before .before .before .before .settings-from .ensures)
 
 pub machine-from-spec : {M : Type 1} → statement M
 machine-from-spec =
@@ -138,6 +147,7 @@ machine-from-spec =
     bit-requires
     array-read-low8
     low8-requires
+    cast-t54
     array-read-flag-2
     flag-requires-2
     array-read-flag-3
@@ -152,5 +162,7 @@ machine-from-spec =
     bit-requires-6
     array-read-low8-2
     low8-requires-2
+    array-read-flag-4
+    flag-requires-4
     walk-gpe-requires
     returns)

@@ -11,10 +11,10 @@ use Rattle.values.proofs.of.joined.Statement.{statement}
 use Rattle.values.proofs.of.joined.Tie as tie
 
 abbrev Inv-loop : tie.InvT-loop
-Inv-loop first then all₀ i₀ all i = (take i all ++ drop i (first ++ then) ≡ first ++ then) × (length all ≡ 42)
+Inv-loop first then all₀ i₀ all i = (take i all ++ drop i (first ++ then) ≡ first ++ then) × (length all ≡ 43)
 
 abbrev μ-loop : tie.MeasureT-loop
-μ-loop first then all₀ i₀ all i = 42 - i
+μ-loop first then all₀ i₀ all i = 43 - i
 
 loop-holds : tie.Need-loop-holds Inv-loop μ-loop
 loop-holds c = (refl, refl)

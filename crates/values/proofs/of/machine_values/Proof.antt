@@ -68,8 +68,11 @@ flag-value-requires-3 c κs = search needs
 wide8-requires : tie.Need-wide8-requires
 wide8-requires c κs = search needs
 
+flag-value-requires-4 : tie.Need-flag-value-requires-4
+flag-value-requires-4 c κs = search needs
+
 returns : tie.Need-returns
-returns c = simp (c .wide8 .ensures, c .before .flag-value3 .ensures, c .before .before .flag-value2 .ensures, c .before .before .before .command-value .ensures, c .before .before .before .before .flag-value .ensures, c .before .before .before .before .before .wide324 .ensures, c .before .before .before .before .before .before .wide323 .ensures, c .before .before .before .before .before .before .before .arb-dis-value .ensures, c .before .before .before .before .before .before .before .before .wide322 .ensures, c .before .before .before .before .before .before .before .before .before .control-register2 .ensures, c .before .before .before .before .before .before .before .before .before .before .scalars2 .ensures, c .before .before .before .before .before .before .before .before .before .before .before .wide32 .ensures, c .before .before .before .before .before .before .before .before .before .before .before .before .control-register .ensures, c .before .before .before .before .before .before .before .before .before .before .before .before .before .scalars .ensures, c .before .before .before .before .before .before .before .before .before .before .before .before .before .before .wide164 .ensures, c .before .before .before .before .before .before .before .before .before .before .before .before .before .before .before .enable-register2 .ensures, c .before .before .before .before .before .before .before .before .before .before .before .before .before .before .before .before .wide163 .ensures, c .before .before .before .before .before .before .before .before .before .before .before .before .before .before .before .before .before .enable-register .ensures, c .before .before .before .before .before .before .before .before .before .before .before .before .before .before .before .before .before .before .wide162 .ensures, c .before .before .before .before .before .before .before .before .before .before .before .before .before .before .before .before .before .before .before .status-register2 .ensures, c .before .before .before .before .before .before .before .before .before .before .before .before .before .before .before .before .before .before .before .before .wide16 .ensures, c .before .before .before .before .before .before .before .before .before .before .before .before .before .before .before .before .before .before .before .before .before .status-register .ensures)
+returns c = simp (c .flag-value4 .ensures, c .before .wide8 .ensures, c .before .before .flag-value3 .ensures, c .before .before .before .flag-value2 .ensures, c .before .before .before .before .command-value .ensures, c .before .before .before .before .before .flag-value .ensures, c .before .before .before .before .before .before .wide324 .ensures, c .before .before .before .before .before .before .before .wide323 .ensures, c .before .before .before .before .before .before .before .before .arb-dis-value .ensures, c .before .before .before .before .before .before .before .before .before .wide322 .ensures, c .before .before .before .before .before .before .before .before .before .before .control-register2 .ensures, c .before .before .before .before .before .before .before .before .before .before .before .scalars2 .ensures, c .before .before .before .before .before .before .before .before .before .before .before .before .wide32 .ensures, c .before .before .before .before .before .before .before .before .before .before .before .before .before .control-register .ensures, c .before .before .before .before .before .before .before .before .before .before .before .before .before .before .scalars .ensures, c .before .before .before .before .before .before .before .before .before .before .before .before .before .before .before .wide164 .ensures, c .before .before .before .before .before .before .before .before .before .before .before .before .before .before .before .before .enable-register2 .ensures, c .before .before .before .before .before .before .before .before .before .before .before .before .before .before .before .before .before .wide163 .ensures, c .before .before .before .before .before .before .before .before .before .before .before .before .before .before .before .before .before .before .enable-register .ensures, c .before .before .before .before .before .before .before .before .before .before .before .before .before .before .before .before .before .before .before .wide162 .ensures, c .before .before .before .before .before .before .before .before .before .before .before .before .before .before .before .before .before .before .before .before .status-register2 .ensures, c .before .before .before .before .before .before .before .before .before .before .before .before .before .before .before .before .before .before .before .before .before .wide16 .ensures, c .before .before .before .before .before .before .before .before .before .before .before .before .before .before .before .before .before .before .before .before .before .before .status-register .ensures)
 
 pub machine-values-spec : {M : Type 1} → statement M
 machine-values-spec =
@@ -97,4 +100,5 @@ machine-values-spec =
     flag-value-requires-2
     flag-value-requires-3
     wide8-requires
+    flag-value-requires-4
     returns)

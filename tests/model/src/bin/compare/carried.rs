@@ -5,6 +5,7 @@ use std::path::Path;
 use model::{saved, session_end, Machine};
 
 use crate::programs::{same, Outcome, Programs};
+use crate::records::edition_1;
 use crate::sessions::{Kind, Session};
 
 pub struct Cut {
@@ -48,11 +49,17 @@ impl Cut {
         self.at.is_multiple_of(4)
     }
 
+    /// One in four is resumed from its text of edition 1, where the pin is inactive.
+    pub fn from_edition_1(&self) -> bool {
+        self.at % 4 == 1 && !self.machine.pin
+    }
+
     /// The programs carry the session over the cut to what it comes to uncut.
     pub fn check(&self, programs: &Programs, folder: &Path, table: &[u8], uncut: &Outcome) -> Result<(), String> {
         let by = |reason: String| format!("cut after step {}: {reason}", self.at);
         let state = programs.save(&folder.join("first"), table, &self.first)?;
         same("saved text", &saved::write(&self.machine), &state).map_err(by)?;
+        let state = if self.from_edition_1() { edition_1(&state) } else { state };
         let folder = &folder.join("rest");
         let listing = programs.resume(folder, &state, &self.rest)?;
         same("resumed listing", &self.listing(&uncut.listing), &listing).map_err(by)?;

@@ -11,7 +11,7 @@ use model::{
 use crate::carried::Cut;
 use crate::damage::{SCRIPTS, TABLES};
 use crate::halves::{gap_step, moved, write_backs};
-use crate::records::{Saved, ABSENT, FLAGS, SLEEPS};
+use crate::records::{newest, Saved, ABSENT, FLAGS, SLEEPS};
 use crate::sessions::{Kind, Session};
 use crate::states::STATES;
 use crate::text::{join, lines};
@@ -36,7 +36,8 @@ const ANSWERS: &[(&str, &[u8])] = &[
     ("release", &[0, 28, 30]),
     ("sleep", &[0, 28]),
     ("alarm", &[0, 28]),
-    ("wake", &[0, 28]),
+    ("pin active", &[0, 28, 30]),
+    ("pin inactive", &[0, 28, 30]),
     ("master", &[0, 20]),
     ("unlock", &[0, 20]),
     ("event", &[0, 29]),
@@ -45,23 +46,37 @@ const ANSWERS: &[(&str, &[u8])] = &[
     ("drop", &[0, 20]),
 ];
 
-const WAKERS: &[&str] = &["press", "sleep", "alarm", "GPE0 event", "GPE1 event", "wake"];
+const WAKERS: &[&str] = &["press", "sleep", "alarm", "GPE0 event", "GPE1 event", "pin active"];
+
+const PIN_STEPS: [&str; 2] = ["pin active", "pin inactive"];
+const DISABLES: [&str; 2] = ["not disabled", "disabled"];
+/// States as the pin has them.
+const PLACES: [&str; 3] = ["S0", "asleep", "S5"];
+
+fn place(state: u8) -> &'static str {
+    match state {
+        0 => PLACES[0],
+        5 => PLACES[2],
+        _ => PLACES[1],
+    }
+}
 
 const OTHERS: &[&str] = &[
     "press leaves S5 entered by a write",
     "press leaves S5 entered by the override",
+    "press leaves S5, the pin active",
+    "press leaves S5, the pin active and bit 14 set",
+    "woken by pin active, bit 14 set already",
+    "bit 14 written at its home, the pin active: other bits cleared",
     "asleep: sleep, not enabled",
     "asleep: alarm, not enabled",
     "asleep: event, not enabled",
-    "asleep: wake, disabled",
     "asleep: release",
     "asleep: tick",
     "S4: alarm, enabled, without flag 7",
-    "S0: wake",
     "S5: sleep",
     "S5: alarm",
     "S5: event",
-    "S5: wake",
     "S5: release",
     "S5: tick",
     "completing: wakes at once by PWRBTN alone",
@@ -73,6 +88,10 @@ const OTHERS: &[&str] = &[
     "completing: sleeps on, TMR or GBL set and enabled",
     "completing: sleeps on in S4, RTC pending, without flag 7",
     "completing: S5, an enabled bit set",
+    "completing: S5, the pin active",
+    "completing: wakes at once, the pin active",
+    "completing: sleeps on, the pin active, disabled",
+    "completing: sleeps on, the pin active and bit 14 set",
     "completing: with a low byte",
     "completing: 27 by S0's pair",
     "completing: 27 by another pair",
@@ -111,10 +130,12 @@ const OTHERS: &[&str] = &[
     "hold: one tick short of 4 seconds",
     "hold: override",
     "hold: override with ticks left over",
+    "hold: override, the pin active",
     "hold: stops, no override fitted",
     "hold: grows after a wake that was no press",
     "command: enable, SCI_EN clear, enables set",
     "command: enable, SCI_EN set, enables set",
+    "command: enable, SCI_EN clear, the pin active",
     "command: disable",
     "command: another",
     "release flag: raised at A",
@@ -133,7 +154,13 @@ const OTHERS: &[&str] = &[
     "split: control write, gap",
     "split: status read, an alarm in the gap",
     "split: status write, an alarm in the gap",
+    "split: status read, a pin step in the gap",
+    "split: status write, a pin step in the gap",
+    "split: control write, a pin step in the gap",
+    "split: bit 14 written at A, then a pin step",
+    "split: a pin step, then bit 14 written at B",
     "split: status written back",
+    "split: bit 14 written back, the pin active",
     "split: gap steps moved before",
     "split: gap steps moved after",
     "split: raised bits kept by a write-back",
@@ -162,6 +189,9 @@ const SAVED: &[&str] = &[
     "saved: status and enables of GPE1",
     "saved: one of GPE0 pending",
     "saved: one of GPE1 pending",
+    "saved: the pin active, bit 14 set",
+    "saved: the pin inactive, bit 14 set",
+    "saved: resumed from a text of edition 1",
 ];
 
 /// The numbers of reading.
@@ -183,6 +213,7 @@ impl Coverage {
             names.extend(WAKERS.iter().map(|waker| format!("S{state}: woken by {waker}")));
             names.push(format!("S{state}: woken at once"));
         }
+        names.extend(pin_rows());
         for access in ["read", "write"] {
             for block in ["PM1a", "PM1b"] {
                 for register in ["status", "enable", "control"] {
@@ -201,6 +232,7 @@ impl Coverage {
         names.extend(TABLES.iter().map(|table| format!("table: {}", table.name)));
         names.extend(SCRIPTS.iter().map(|script| format!("script: {}", script.name)));
         names.extend((0..=5).map(|state| format!("saved: S{state}")));
+        names.extend(PLACES.map(|place| format!("saved: {place}, the pin active")));
         names.extend(SAVED.iter().map(|name| name.to_string()));
         names.extend(STATES.iter().map(|kind| format!("text: {}", kind.name)));
         for answer in READING {
@@ -327,6 +359,11 @@ impl Coverage {
         self.count_if(both(&machine.gpe[1]), "saved: status and enables of GPE1");
         self.count_if(machine.gpe[0].event(), "saved: one of GPE0 pending");
         self.count_if(machine.gpe[1].event(), "saved: one of GPE1 pending");
+        self.count_if(machine.pin, &format!("saved: {}, the pin active", place(machine.state)));
+        let bit_14 = machine.status & PCIEXP_WAKE != 0;
+        self.count_if(bit_14 && machine.pin, "saved: the pin active, bit 14 set");
+        self.count_if(bit_14 && !machine.pin, "saved: the pin inactive, bit 14 set");
+        self.count_if(cut.from_edition_1(), "saved: resumed from a text of edition 1");
     }
 
     /// Counts a saved text; an error where the model does not answer what its kind says.
@@ -364,6 +401,7 @@ impl Coverage {
         self.count(&format!("state S{}", after.state));
         self.lines(after);
         self.pending(before, step, after);
+        self.pin(before, step, answer, after);
         if let Step::Write { port, data, .. } = *step {
             if let Some((block, written)) = control_write(before, step) {
                 self.control(before, block, written, answer, after);
@@ -422,7 +460,11 @@ impl Coverage {
             (true, false) => self.count("pending: no longer, the status cleared"),
             (true, true) if write && is.iter().sum::<u32>() < was.iter().sum() => {
                 let gone = (0..2).any(|block| was[block] != 0 && is[block] == 0);
-                self.count(if gone { "pending: still, in the other block" } else { "pending: still, one of several cleared" });
+                self.count(if gone {
+                    "pending: still, in the other block"
+                } else {
+                    "pending: still, one of several cleared"
+                });
             }
             (false, false) if write && enabled => self.count("pending: not by an enable, its status clear"),
             (false, false) if !write && before.state != 5 => self.count("pending: not by an event, its enable clear"),
@@ -430,11 +472,35 @@ impl Coverage {
         }
     }
 
-    /// An accepted step outside S0, and PCIe wake in it.
+    /// Request W3: pin steps, and ones written to bit 14 where it is set.
+    fn pin(&mut self, before: &Machine, step: &Step, answer: u8, after: &Machine) {
+        let (word, place) = (word(step), place(before.state));
+        let set = before.status & PCIEXP_WAKE != 0;
+        if pin_step(step) && answer != 0 {
+            self.count(&format!("{place}: {word} refused, {answer}"));
+        } else if pin_step(step) {
+            let disabled = DISABLES[usize::from(before.enable & PCIEXP_WAKE != 0)];
+            let woken = after.state != before.state;
+            self.count_if(!woken, &format!("S{}: {word}, {disabled}", before.state));
+            self.count_if(woken && set, "woken by pin active, bit 14 set already");
+            self.count_if(!woken && set, &format!("{place}: {word}, bit 14 set"));
+        }
+        if let (Some(write), 0, true) = (StatusWrite::of(before, step), answer, set) {
+            if write.word & PCIEXP_WAKE != 0 {
+                self.count(&write.row(before.pin));
+                let cleared = before.status & !after.status;
+                let kept = write.home && before.pin && cleared != 0;
+                self.count_if(kept, "bit 14 written at its home, the pin active: other bits cleared");
+            }
+        }
+    }
+
+    /// An accepted step outside S0.
     fn outside_s0(&mut self, before: &Machine, step: &Step, after: &Machine) {
         let word = word(step);
         match before.state {
-            0 => self.count_if(*step == Step::Wake, "S0: wake"),
+            0 => {}
+            _ if pin_step(step) && after.state != 0 => {}
             5 if after.state == 5 => self.count(&format!("S5: {word}")),
             5 => {}
             state if after.state == 0 => {
@@ -444,10 +510,10 @@ impl Coverage {
                     _ => word,
                 };
                 self.count(&format!("S{state}: woken by {waker}"));
+                self.count_if(before.pin, &format!("woken by {waker}, the pin active"));
             }
             _ => match step {
                 Step::Release | Step::Tick(_) => self.count(&format!("asleep: {word}")),
-                Step::Wake => self.count("asleep: wake, disabled"),
                 Step::Alarm if before.enable & RTC != 0 => self.count("S4: alarm, enabled, without flag 7"),
                 _ => self.count(&format!("asleep: {word}, not enabled")),
             },
@@ -486,8 +552,10 @@ impl Coverage {
         let buttons = pending & (PWRBTN | SLPBTN | RTC);
         if state == 5 {
             self.count_if(buttons != 0 || gpe[0] || gpe[1], "completing: S5, an enabled bit set");
+            self.count_if(after.pin, "completing: S5, the pin active");
         } else if after.state == 0 {
             self.count(&format!("S{state}: woken at once"));
+            self.count_if(after.pin, "completing: wakes at once, the pin active");
             match (buttons, gpe) {
                 (PWRBTN, [false, false]) => self.count("completing: wakes at once by PWRBTN alone"),
                 (SLPBTN, [false, false]) => self.count("completing: wakes at once by SLPBTN alone"),
@@ -501,6 +569,11 @@ impl Coverage {
             self.count_if(set & !after.enable != 0, "completing: sleeps on, a bit set but not enabled");
             self.count_if(pending & 0x0021 != 0, "completing: sleeps on, TMR or GBL set and enabled");
             self.count_if(buttons == RTC, "completing: sleeps on in S4, RTC pending, without flag 7");
+            let disabled = after.enable & PCIEXP_WAKE != 0;
+            let bit_14 = after.status & PCIEXP_WAKE != 0;
+            self.count_if(after.pin && !disabled, &format!("completing: sleeps on in S{state}, the pin active"));
+            self.count_if(after.pin && disabled, "completing: sleeps on, the pin active, disabled");
+            self.count_if(after.pin && bit_14, "completing: sleeps on, the pin active and bit 14 set");
         }
     }
 
@@ -535,6 +608,7 @@ impl Coverage {
             let reached = before.hold < HOLD_LIMIT && after.hold == HOLD_LIMIT;
             self.count_if(reached && after.state == 0, "hold: stops, no override fitted");
             self.count_if(after.state == 5, "hold: override");
+            self.count_if(after.state == 5 && after.pin, "hold: override, the pin active");
             self.count_if(after.state == 5 && n > HOLD_LIMIT - before.hold, "hold: override with ticks left over");
         }
     }
@@ -544,6 +618,7 @@ impl Coverage {
         if before.command == Some(hardware.acpi_enable) {
             let name = ["command: enable, SCI_EN clear, enables set", "command: enable, SCI_EN set, enables set"];
             self.count_if(before.enable & !PCIEXP_WAKE != 0, name[usize::from(before.sci_en)]);
+            self.count_if(!before.sci_en && before.pin, "command: enable, SCI_EN clear, the pin active");
         } else if before.command == Some(hardware.acpi_disable) {
             self.count("command: disable");
         } else {
@@ -564,6 +639,9 @@ impl Coverage {
         if before.state == 5 && after.state == 0 {
             let rows = ["press leaves S5 entered by a write", "press leaves S5 entered by the override"];
             self.count(rows[usize::from(seen.overridden)]);
+            self.count_if(before.pin, "press leaves S5, the pin active");
+            let bit_14 = before.status & PCIEXP_WAKE != 0;
+            self.count_if(before.pin && bit_14, "press leaves S5, the pin active and bit 14 set");
         }
         if (1..=4).contains(&before.state) && after.state == 0 && before.down && before.hold > 0 {
             seen.woken_down = *step != Step::Press;
@@ -579,9 +657,10 @@ impl Coverage {
             self.count_if(before.armed && answer == 0, "arming: events while armed");
             seen.gap += 1;
             seen.alarm |= *step == Step::Alarm;
+            seen.pin |= pin_step(step) && answer == 0;
             return;
         }
-        let half = Half::of(hardware, step, value);
+        let half = Half::of(before, step, value);
         match (&half, &seen.first) {
             (Some(second), Some(first)) if second.follows(first) => {
                 if seen.gap > 0 {
@@ -592,11 +671,25 @@ impl Coverage {
                         self.count(&format!("split: status {access}, an alarm in the gap"));
                     }
                 }
+                if seen.pin {
+                    let status = first.event && first.offset < 2;
+                    self.count_if(status && !first.writes, "split: status read, a pin step in the gap");
+                    self.count_if(status && first.writes, "split: status write, a pin step in the gap");
+                    self.count_if(!first.event && first.writes, "split: control write, a pin step in the gap");
+                    self.count_if(first.at_bit_14, "split: bit 14 written at A, then a pin step");
+                    self.count_if(second.at_bit_14, "split: a pin step, then bit 14 written at B");
+                }
                 let values = (first.offset, first.width, first.value, second.value);
                 if !first.event || first.offset >= 2 {
                     seen.status_read = None;
                 } else if first.writes {
-                    self.count_if(seen.status_read == Some(values), "split: status written back");
+                    let written_back = seen.status_read == Some(values);
+                    self.count_if(written_back, "split: status written back");
+                    let bit_14 = first.at_bit_14 || second.at_bit_14;
+                    self.count_if(
+                        written_back && bit_14 && after.pin && !seen.pin,
+                        "split: bit 14 written back, the pin active",
+                    );
                     seen.status_read = None;
                 } else {
                     seen.status_read = Some(values);
@@ -608,12 +701,41 @@ impl Coverage {
         seen.first = half;
         seen.gap = 0;
         seen.alarm = false;
+        seen.pin = false;
     }
+}
+
+/// What each pin step meets in each state, and a one written to bit 14.
+fn pin_rows() -> Vec<String> {
+    let mut rows = Vec::new();
+    for state in 0..=5 {
+        for step in PIN_STEPS {
+            rows.extend(DISABLES.map(|disabled| format!("S{state}: {step}, {disabled}")));
+        }
+    }
+    // There it wakes.
+    rows.retain(|row| !(1..=4).any(|state| *row == format!("S{state}: pin active, not disabled")));
+    for place in PLACES {
+        for step in PIN_STEPS {
+            rows.extend([28, 30].map(|answer| format!("{place}: {step} refused, {answer}")));
+            rows.push(format!("{place}: {step}, bit 14 set"));
+        }
+    }
+    let others = WAKERS.iter().filter(|waker| !PIN_STEPS.contains(waker));
+    rows.extend(others.map(|waker| format!("woken by {waker}, the pin active")));
+    rows.extend((1..=4).map(|state| format!("completing: sleeps on in S{state}, the pin active")));
+    for block in [A, B] {
+        for (home, byte) in [(true, false), (true, true), (false, false), (false, true)] {
+            let write = StatusWrite { block, home, byte, word: PCIEXP_WAKE };
+            rows.extend([true, false].map(|pin| write.row(pin)));
+        }
+    }
+    rows
 }
 
 /// The forms that an accepted value can have, a row each.
 fn forms() -> Vec<String> {
-    let mut forms = Vec::new();
+    let mut forms = Vec::from(["1", "2"].map(|edition| format!("accepted: edition {edition}")));
     for name in FLAGS {
         forms.extend(["0", "1"].map(|value| format!("accepted: {name} {value}")));
     }
@@ -630,9 +752,10 @@ fn forms() -> Vec<String> {
 
 /// Those of `forms` that an accepted text has.
 fn accepted_forms(text: &[u8]) -> Vec<String> {
-    let saved = Saved::of(text);
-    let mut forms: Vec<String> =
-        FLAGS.iter().chain(&["STATE"]).map(|name| format!("accepted: {name} {}", saved.value(name))).collect();
+    let edition = format!("accepted: edition {}", Saved::of(text).value("edition"));
+    let saved = Saved::of(&newest(text));
+    let mut forms = vec![edition];
+    forms.extend(FLAGS.iter().chain(&["STATE"]).map(|name| format!("accepted: {name} {}", saved.value(name))));
     for name in SLEEPS {
         let form = if saved.get(name) == ABSENT { "absent" } else { "a pair" };
         forms.push(format!("accepted: {name} {form}"));
@@ -656,6 +779,7 @@ struct History {
     first: Option<Half>,
     gap: u32,
     alarm: bool,
+    pin: bool,
     /// Offset, width and both values of a split read of status, nothing but gaps since.
     status_read: Option<(u64, u32, u64, u64)>,
 }
@@ -669,10 +793,15 @@ struct Half {
     writes: bool,
     /// What was read or written.
     value: u64,
+    /// A one was written to bit 14 in its home, where it was set.
+    at_bit_14: bool,
 }
 
 impl Half {
-    fn of(hardware: &Hardware, step: &Step, value: u32) -> Option<Half> {
+    fn of(before: &Machine, step: &Step, value: u32) -> Option<Half> {
+        let hardware = &before.hardware;
+        let at_bit_14 = before.status & PCIEXP_WAKE != 0
+            && StatusWrite::of(before, step).is_some_and(|write| write.home && write.word & PCIEXP_WAKE != 0);
         let (port, width, writes, value) = match *step {
             Step::Read { port, width } => (port, width, false, value.into()),
             Step::Write { port, width, data } => (port, width, true, data),
@@ -682,7 +811,7 @@ impl Half {
             for block in [A, B] {
                 let offset = port.wrapping_sub(blocks[block].start.into());
                 if offset < u64::from(blocks[block].length) {
-                    return Some(Half { event, block, offset, width, writes, value });
+                    return Some(Half { event, block, offset, width, writes, value, at_bit_14 });
                 }
             }
         }
@@ -696,6 +825,45 @@ impl Half {
     }
 }
 
+fn pin_step(step: &Step) -> bool {
+    matches!(step, Step::PinActive | Step::PinInactive)
+}
+
+/// A write in S0 that covers the high byte of a PM1 status register.
+struct StatusWrite {
+    block: usize,
+    /// The block is bit 14's home.
+    home: bool,
+    byte: bool,
+    word: u16,
+}
+
+impl StatusWrite {
+    fn of(before: &Machine, step: &Step) -> Option<StatusWrite> {
+        let Step::Write { port, width, data } = *step else {
+            return None;
+        };
+        let hardware = &before.hardware;
+        let block = [A, B].into_iter().find(|block| {
+            let status = hardware.event[*block];
+            status.present() && port & !1 == u64::from(status.start)
+        })?;
+        let home = hardware.visible[block] & PCIEXP_WAKE != 0;
+        match (before.state, width, port & 1, data) {
+            (0, 2, 0, 0..=0xFFFF) => Some(StatusWrite { block, home, byte: false, word: data as u16 }),
+            (0, 1, 1, 0..=0xFF) => Some(StatusWrite { block, home, byte: true, word: (data as u16) << 8 }),
+            _ => None,
+        }
+    }
+
+    fn row(&self, pin: bool) -> String {
+        let home = if self.home { "its home" } else { "away" };
+        let by = if self.byte { "byte" } else { "word" };
+        let pin = if pin { "active" } else { "inactive" };
+        format!("bit 14 written at {}, {home}, by a {by}, the pin {pin}", ["A", "B"][self.block])
+    }
+}
+
 fn word(step: &Step) -> &'static str {
     match step {
         Step::Read { .. } => "read",
@@ -704,7 +872,8 @@ fn word(step: &Step) -> &'static str {
         Step::Release => "release",
         Step::Sleep => "sleep",
         Step::Alarm => "alarm",
-        Step::Wake => "wake",
+        Step::PinActive => "pin active",
+        Step::PinInactive => "pin inactive",
         Step::Master => "master",
         Step::Unlock => "unlock",
         Step::Event(_) => "event",

@@ -128,7 +128,7 @@ fn home_is_b(settings: &Settings, step: &Step) -> bool {
         Step::Press | Step::Release => PWRBTN,
         Step::Sleep => SLPBTN,
         Step::Alarm => RTC,
-        Step::Wake => PCIEXP_WAKE,
+        Step::PinActive | Step::PinInactive => PCIEXP_WAKE,
         Step::Master => BM,
         Step::Unlock => GBL,
         Step::Tick(_) => TMR,

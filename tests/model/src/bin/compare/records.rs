@@ -15,7 +15,7 @@ pub const ADDRESSES: [&str; 9] = [
     "GPE0_BLK",
     "GPE1_BLK",
 ];
-pub const FLAGS: [&str; 4] = ["OVERRIDE", "BUTTON", "RELEASE", "ARMED"];
+pub const FLAGS: [&str; 5] = ["OVERRIDE", "BUTTON", "RELEASE", "ARMED", "WAKE_PIN"];
 pub const SLEEPS: [&str; 6] = ["S0", "S1", "S2", "S3", "S4", "S5"];
 pub const GPES: [&str; 4] = ["GPE0_STS", "GPE0_EN", "GPE1_STS", "GPE1_EN"];
 pub const ABSENT: u64 = 0xFFFF;
@@ -24,6 +24,24 @@ pub const HOLD: u64 = HOLD_LIMIT as u64;
 /// The bytes that a GPE record has by its length record.
 pub fn bytes(length: u64) -> u64 {
     (length / 2).min(8)
+}
+
+/// A text of edition 2 in edition 1, which has no WAKE_PIN.
+pub fn edition_1(text: &[u8]) -> Vec<u8> {
+    let mut saved = Saved::of(text);
+    saved.put("edition", "1");
+    saved.remove("WAKE_PIN");
+    saved.text()
+}
+
+/// What an accepted text is written again as: a text of edition 1 in edition 2, the pin at its power-on setting.
+pub fn newest(text: &[u8]) -> Vec<u8> {
+    let mut saved = Saved::of(text);
+    if saved.value("edition") == "1" {
+        saved.put("edition", "2");
+        saved.insert_after("STATE", "WAKE_PIN", "0");
+    }
+    saved.text()
 }
 
 /// A text's records, in their order.
@@ -59,6 +77,16 @@ impl Saved {
     pub fn put(&mut self, name: &str, value: &str) {
         let at = self.at(name);
         self.0[at].1 = value.to_string();
+    }
+
+    pub fn remove(&mut self, name: &str) {
+        let at = self.at(name);
+        self.0.remove(at);
+    }
+
+    pub fn insert_after(&mut self, before: &str, name: &str, value: &str) {
+        let at = self.at(before) + 1;
+        self.0.insert(at, (name.to_string(), value.to_string()));
     }
 
     /// With as many digits as it has.
@@ -188,7 +216,10 @@ impl Saved {
     pub fn unfit(&mut self, bit: u16) {
         match bit {
             TMR => self.without_timer(),
-            PCIEXP_WAKE => self.clear_bits("FLAGS", 1 << 14),
+            PCIEXP_WAKE => {
+                self.clear_bits("FLAGS", 1 << 14);
+                self.set("WAKE_PIN", 0);
+            }
             PWRBTN => {
                 self.set_bits("FLAGS", 1 << 4);
                 self.set("BUTTON", 0);

@@ -1,4 +1,4 @@
-//! Saved texts (request W2): legal ones, and kinds of damage with the number that reading answers.
+//! Saved texts (requests W2 and W3): legal ones, and kinds of damage with the number that reading answers.
 
 use std::fs;
 use std::io::{self, Write};
@@ -8,7 +8,7 @@ use model::{saved, set_up, ENABLES, PCIEXP_WAKE, PWRBTN, RTC, SLPBTN};
 
 use crate::platform::Platform;
 use crate::random::Random;
-use crate::records::{bytes, Saved, ABSENT, ADDRESSES, FLAGS, GPES, HOLD, SLEEPS};
+use crate::records::{bytes, edition_1, Saved, ABSENT, ADDRESSES, FLAGS, GPES, HOLD, SLEEPS};
 use crate::steps::steps;
 
 /// The saved text of a machine somewhere in a session.
@@ -90,8 +90,16 @@ const fn legal_as(name: &'static str, how: fn(&mut Saved, &mut Random)) -> State
     State { name, answer: Some(0), how: How::Records(how) }
 }
 
+const fn legal_text(name: &'static str, how: fn(Vec<u8>, &mut Random) -> Vec<u8>) -> State {
+    State { name, answer: Some(0), how: How::Text(how) }
+}
+
 const fn illegal(name: &'static str, how: fn(&mut Saved, &mut Random)) -> State {
     State { name, answer: Some(42), how: How::Records(how) }
+}
+
+const fn illegal_text(name: &'static str, how: fn(Vec<u8>, &mut Random) -> Vec<u8>) -> State {
+    State { name, answer: Some(42), how: How::Text(how) }
 }
 
 const fn malformed(name: &'static str, how: fn(&mut Saved, &mut Random)) -> State {
@@ -115,22 +123,35 @@ pub const STATES: &[State] = &[
     legal_as("every block and event there", |s, r| s.full(r)),
     // 40: the first line.
     no_edition("another edition", |t, r| {
-        let number = r.pick(&["2", "0", "3", "9", "10", "11", "01", "1.0", "001", "A", "-1", "+1", "\u{B9}"]);
+        let number = r.pick(&[
+            "3", "0", "4", "9", "10", "11", "12", "20", "22", "01", "02", "1.0", "2.0", "001", "002", "A", "-1", "-2",
+            "+2", "\u{B9}", "\u{B2}",
+        ]);
         first_line(&t, &format!("edition\t{number}"))
     }),
     no_edition("no edition line", |t, r| {
-        let lines =
-            ["edition", "edition\t", "edition 1", "edition\t\t1", " edition\t1", "Edition\t1", "EDITION\t1", "1"];
-        first_line(&t, r.pick(&lines))
+        let number = r.pick(&["1", "2"]);
+        let line = r.pick(&[
+            "edition",
+            "edition\t",
+            "edition N",
+            "edition\t\tN",
+            " edition\tN",
+            "Edition\tN",
+            "EDITION\tN",
+            "N",
+        ]);
+        first_line(&t, &line.replace('N', number))
     }),
     no_edition("more in the edition line", |t, r| {
         let more = r.pick(&["\r", " ", "\t", "\t1", "\0", ","]);
-        first_line(&t, &format!("edition\t1{more}"))
+        let number = r.pick(&["1", "2"]);
+        first_line(&t, &format!("edition\t{number}{more}"))
     }),
     no_edition("something before the edition line", |t, r| {
         [r.pick(&["\n", "\u{FEFF}", "\t", "\0", "# saved\n"]).as_bytes(), &t].concat()
     }),
-    no_edition("the edition line left out", |t, _| t["edition\t1\n".len()..].to_vec()),
+    no_edition("the edition line left out", |t, _| t["edition\t2\n".len()..].to_vec()),
     no_edition("the edition line second", |t, _| {
         let mut lines = lines(&t);
         lines.swap(0, 1);
@@ -144,7 +165,10 @@ pub const STATES: &[State] = &[
     }),
     no_edition("spaces for tabs throughout", |t, _| t.into_iter().map(|b| if b == b'\t' { b' ' } else { b }).collect()),
     // 41: lines.
-    bad_lines("the edition line alone", |_, r| r.pick(&["edition\t1", "edition\t1\n", "edition\t1\n\n"]).into()),
+    bad_lines("the edition line alone", |_, r| {
+        let number = r.pick(&["1", "2"]);
+        format!("edition\t{number}{}", r.pick(&["", "\n", "\n\n"])).into()
+    }),
     bad_lines("the last LF missing", |t, _| t[..t.len() - 1].to_vec()),
     bad_lines("cut", |t, r| t[..t.len() - 1 - r.below(t.len() as u64 - 10) as usize].to_vec()),
     bad_lines("cut after a line", |t, r| {
@@ -171,12 +195,13 @@ pub const STATES: &[State] = &[
     }),
     bad_lines("a surplus line", |t, r| {
         let mut lines = lines(&t);
-        let surplus = [&b"\n"[..], b"edition\t1\n", b"WAKE_PIN\t0\n", b"# stuck\n", b"X\t0\n", b"\t\n", b"\r\n"];
+        let surplus = [&b"\n"[..], b"edition\t2\n", b"WAKE_PIN\t0\n", b"# stuck\n", b"X\t0\n", b"\t\n", b"\r\n"];
         lines.insert(a_record(&lines, r), r.pick(&surplus));
         lines.concat()
     }),
     bad_lines("more at the end", |t, r| {
-        let more = ["\n", "\n\n", " ", "\0", "\t", "\r\n", "GPE2_STS\t\n", "GPE1_EN\t", "0", "edition\t1\n"];
+        let more =
+            ["\n", "\n\n", " ", "\0", "\t", "\r\n", "GPE2_STS\t\n", "GPE1_EN\t", "0", "edition\t2\n", "WAKE_PIN\t0\n"];
         [&t, r.pick(&more).as_bytes()].concat()
     }),
     bad_lines("the text twice", |t, _| [&t[..], &t].concat()),
@@ -752,17 +777,83 @@ pub const STATES: &[State] = &[
         s.without_control_b(r);
         s.set("PM1a_CNT", s.get("PM1a_CNT") & 3 | r.below(8) << 10);
     }),
+    // The wake pin.
+    legal_as("WAKE_PIN active, fitted", |s, r| {
+        s.set_bits("FLAGS", 1 << 14);
+        s.in_state(r.below(6), r);
+        s.set("WAKE_PIN", 1);
+    }),
+    illegal("WAKE_PIN active, not fitted", |s, r| {
+        s.unfit(PCIEXP_WAKE);
+        s.in_state(r.below(6), r);
+        s.set("WAKE_PIN", 1);
+    }),
+    legal_as("WAKE_PIN inactive, fitted", |s, _| {
+        s.set_bits("FLAGS", 1 << 14);
+        s.set("WAKE_PIN", 0);
+    }),
+    legal_as("WAKE_PIN inactive, not fitted", |s, _| s.unfit(PCIEXP_WAKE)),
+    legal_as("WAKE_PIN beside any bit 14", |s, r| {
+        s.full(r);
+        s.set("WAKE_PIN", r.pick(&[1, 0]));
+        s.clear_cells(PCIEXP_WAKE);
+        for register in ["STS", "EN"] {
+            let bit = u64::from(PCIEXP_WAKE) * r.below(2);
+            s.set_bits(&format!("PM1{}_{register}", s.home(PCIEXP_WAKE)), bit);
+        }
+    }),
+    malformed("WAKE_PIN malformed", |s, r| {
+        s.put("WAKE_PIN", r.pick(&["2", "00", "", "01", "10", "11", "3", "9", "A", "F", "-", "x", " 1", "1 ", "0\t"]));
+    }),
+    // The editions.
+    malformed("WAKE_PIN left out", |s, _| s.remove("WAKE_PIN")),
+    malformed("WAKE_PIN in another place", |s, r| {
+        let pin = s.value("WAKE_PIN").to_string();
+        s.remove("WAKE_PIN");
+        let before = loop {
+            let name = s.any_record(r);
+            if name != "STATE" {
+                break name;
+            }
+        };
+        s.insert_after(&before, "WAKE_PIN", &pin);
+    }),
+    legal_text("edition 1", |t, _| edition_1(&t)),
+    legal_text("edition 1, another legal one", |t, r| in_edition_1(&t, r, 0)),
+    malformed("edition 1 with WAKE_PIN", |s, r| {
+        s.put("edition", "1");
+        s.set("WAKE_PIN", r.pick(&[0, 1]));
+    }),
+    bad_lines("edition 1 with WAKE_PIN in another place", |t, r| {
+        let text = edition_1(&t);
+        let mut lines = lines(&text);
+        let pin = r.pick(&[&b"WAKE_PIN\t0\n"[..], b"WAKE_PIN\t1\n"]);
+        lines.insert(1 + r.below(lines.len() as u64) as usize, pin);
+        lines.concat()
+    }),
+    bad_lines("edition 1, a line missing", |t, r| {
+        let text = edition_1(&t);
+        let mut lines = lines(&text);
+        lines.remove(a_record(&lines, r));
+        lines.concat()
+    }),
+    bad_lines("edition 1, malformed", |t, r| {
+        let mut saved = Saved::of(&edition_1(&t));
+        saved.spoil(r, &["a", "f", "G", "-", "\r"]);
+        saved.text()
+    }),
+    illegal_text("edition 1, illegal", |t, r| in_edition_1(&t, r, 42)),
     // The order of the refusals.
     bad_lines("illegal and malformed", |t, r| {
         let mut saved = Saved::of(&some(r, 42).apply(&t, r));
         saved.spoil(r, &["a", "f", "G", "-"]);
         saved.text()
     }),
-    no_edition("illegal and another edition", |t, r| first_line(&some(r, 42).apply(&t, r), "edition\t2")),
+    no_edition("illegal and another edition", |t, r| first_line(&some(r, 42).apply(&t, r), "edition\t3")),
     no_edition("malformed and another edition", |t, r| {
         let mut saved = Saved::of(&t);
         saved.spoil(r, &["a", "f", "G", "-"]);
-        first_line(&saved.text(), "edition\t2")
+        first_line(&saved.text(), "edition\t3")
     }),
     // Anything.
     any("one byte changed", |mut t, r| {
@@ -800,10 +891,21 @@ pub const STATES: &[State] = &[
     }),
 ];
 
-/// A kind whose answer this is.
+/// A kind of records whose answer this is.
 fn some(random: &mut Random, answer: u8) -> &'static State {
-    let kinds: Vec<&State> = STATES.iter().filter(|kind| kind.answer == Some(answer)).collect();
+    let of_records = |kind: &&State| matches!(kind.how, How::Records(_));
+    let kinds: Vec<&State> = STATES.iter().filter(|kind| kind.answer == Some(answer)).filter(of_records).collect();
     random.pick(&kinds)
+}
+
+/// A kind whose answer this is, in edition 1; one that is not of the pin.
+fn in_edition_1(text: &[u8], random: &mut Random, answer: u8) -> Vec<u8> {
+    loop {
+        let kind = some(random, answer);
+        if !kind.name.starts_with("WAKE_PIN") {
+            return edition_1(&kind.apply(text, random));
+        }
+    }
 }
 
 /// With the LF of each.

@@ -46,7 +46,7 @@ impl Author<'_> {
     }
 
     fn awake(&mut self) {
-        match self.random.below(100) {
+        match self.random.below(104) {
             0..=11 => self.any_event(),
             12..=17 => self.write_enables(),
             18..=22 => self.write_gpe(),
@@ -63,7 +63,9 @@ impl Author<'_> {
             91..=94 => self.any_access(),
             95 => self.write_pm2(),
             96..=97 => self.write_control_high(),
-            _ => self.firmware(),
+            98..=99 => self.firmware(),
+            100..=101 => self.pin(),
+            _ => self.clear_bit_14(),
         }
     }
 
@@ -74,7 +76,7 @@ impl Author<'_> {
             2..=5 => self.go(Step::Sleep),
             6..=10 => self.go(Step::Alarm),
             11..=15 => self.general_event(),
-            16..=18 => self.go(Step::Wake),
+            16..=18 => self.pin(),
             19 => self.ticks(),
             20 => self.any_access(),
             21 => self.firmware(),
@@ -84,14 +86,18 @@ impl Author<'_> {
         if self.machine.state == 0 && self.once_in(2) {
             self.read_most();
         }
+        if self.machine.state == 0 && self.machine.status & PCIEXP_WAKE != 0 && self.once_in(2) {
+            self.clear_bit_14();
+        }
     }
 
     /// In S5: only a press wakes.
     fn off(&mut self) {
-        match self.random.below(8) {
+        match self.random.below(9) {
             0..=3 => self.button(),
             4..=5 => self.gap_step(),
             6 => self.any_access(),
+            7 => self.pin(),
             _ => self.firmware(),
         }
         if self.machine.state == 0 {
@@ -157,7 +163,7 @@ impl Author<'_> {
             0 => self.button(),
             1 => self.go(Step::Sleep),
             2 => self.go(Step::Alarm),
-            3 => self.go(Step::Wake),
+            3 => self.pin(),
             4 => self.go(Step::Master),
             5 => self.go(Step::Unlock),
             _ => self.general_event(),
@@ -168,6 +174,14 @@ impl Author<'_> {
     fn button(&mut self) {
         let due = if self.machine.down { Step::Release } else { Step::Press };
         let not_due = if self.machine.down { Step::Press } else { Step::Release };
+        let step = if self.once_in(8) { not_due } else { due };
+        self.go(step);
+    }
+
+    /// Pin active or pin inactive, mostly the one that is due.
+    fn pin(&mut self) {
+        let due = if self.machine.pin { Step::PinInactive } else { Step::PinActive };
+        let not_due = if self.machine.pin { Step::PinActive } else { Step::PinInactive };
         let step = if self.once_in(8) { not_due } else { due };
         self.go(step);
     }
@@ -192,6 +206,8 @@ impl Author<'_> {
     fn gap_step(&mut self) {
         if self.once_in(5) {
             self.ticks();
+        } else if self.once_in(8) {
+            self.pin();
         } else {
             self.any_event();
         }
@@ -284,6 +300,21 @@ impl Author<'_> {
         let port = self.event_port();
         let word = self.some_word();
         self.write_event(port, word);
+    }
+
+    /// A one is written to bit 14, at either block, the pin as it is; then it moves, or not.
+    fn clear_bit_14(&mut self) {
+        for _ in 0..self.random.pick(&[1, 2, 3]) {
+            let port = self.event_port();
+            let word = u64::from(PCIEXP_WAKE) | self.some_word();
+            self.write_event(port, word);
+            if self.once_in(2) {
+                self.read(port, 2);
+            }
+            if self.once_in(2) {
+                self.pin();
+            }
+        }
     }
 
     fn write_gpe(&mut self) {
@@ -541,6 +572,7 @@ impl Author<'_> {
             (RTC, Step::Alarm),
             (RTC, Step::Alarm),
             (PCIEXP_WAKE, Step::Unlock),
+            (PCIEXP_WAKE, Step::PinActive),
         ]);
         let enabled = if self.once_in(4) { 0 } else { bit };
         self.write_all_enables(enabled.into());
@@ -620,7 +652,7 @@ impl Author<'_> {
             u64::MAX,
         ]);
         let port = self.random.pick(&[inside, inside, outside]);
-        match self.random.below(8) {
+        match self.random.below(9) {
             0 => {
                 let width = self.random.pick(&[0, 3, 5, 8, 16, 1 << 31, u32::MAX]);
                 let data = self.some_word();
@@ -655,6 +687,10 @@ impl Author<'_> {
             }
             6 => {
                 let step = if self.machine.down { Step::Press } else { Step::Release };
+                self.go(step);
+            }
+            7 => {
+                let step = if self.machine.pin { Step::PinActive } else { Step::PinInactive };
                 self.go(step);
             }
             _ => self.go(Step::Take),

@@ -1,19 +1,19 @@
-//! The saved texts of a run, by their numbers: the kinds of `STATES` in turn; then two legal ones, each byte changed in
+//! The saved texts of a run, by their numbers: the kinds of `STATES` in turn; then three legal ones, each byte changed in
 //! three ways.
 
 use crate::random::Random;
-use crate::records::Saved;
+use crate::records::{edition_1, Saved};
 use crate::states::{legal, STATES};
 
 /// The texts of the kinds.
 const OF_KINDS: u64 = 4_000;
 const WAYS: usize = 3;
 
-/// The legal texts whose bytes are changed: every block is there; and one from a session.
-pub const SWEPT: [&str; 2] = ["a byte of a full text", "a byte of a session's text"];
+/// The legal texts whose bytes are changed: every block is there; one from a session; and one of edition 1.
+pub const SWEPT: [&str; 3] = ["a byte of a full text", "a byte of a session's text", "a byte of a text of edition 1"];
 
 pub struct Texts {
-    swept: [Vec<u8>; 2],
+    swept: [Vec<u8>; 3],
 }
 
 pub struct Text {
@@ -31,7 +31,7 @@ impl Texts {
         let random = &mut Random::new(0);
         let mut full = Saved::of(&legal(random));
         full.full(random);
-        Texts { swept: [full.text(), legal(random)] }
+        Texts { swept: [full.text(), legal(random), edition_1(&legal(random))] }
     }
 
     pub fn count(&self) -> u64 {
@@ -51,8 +51,11 @@ impl Texts {
 
     fn with_another_byte(&self, number: usize) -> Text {
         let (place, way) = (number / WAYS, number % WAYS);
-        let first = self.swept[0].len();
-        let (which, at) = if place < first { (0, place) } else { (1, place - first) };
+        let (mut which, mut at) = (0, place);
+        while at >= self.swept[which].len() {
+            at -= self.swept[which].len();
+            which += 1;
+        }
         let mut bytes = self.swept[which].clone();
         bytes[at] = others(bytes[at], &mut Random::new(place as u64))[way];
         Text { name: SWEPT[which], answer: None, first: false, bytes }
