@@ -62,16 +62,15 @@ out-of-b homes i e = and-comm (2 ^ i) homes ∙ eqb-true (bitAnd homes (2 ^ i)) 
 
 -- ---- the cells of a block
 
--- apart from a mask, apart from what the mask lets through
-apart-within : (k c p v : ℕ) → bitAnd k c ≡ 0 → bitAnd k (bitAnd p (bitAnd c v)) ≡ 0
-apart-within k c p v e =
-    same-digits _ _ (λ j. let d = disjoint-digit k c e j in simp (digit-and, digit-zero) (omega arith))
-
-apart-part : (k c v : ℕ) → bitAnd k c ≡ 0 → bitAnd k (bitAnd c v) ≡ 0
-apart-part k c v e = same-digits _ _ (λ j. let d = disjoint-digit k c e j in simp (digit-and, digit-zero) (omega arith))
-
+-- apart from a mask, apart from what the mask lets through; the mask may stand second, first, or further in
 apart-cells : (k c h : ℕ) → bitAnd k h ≡ 0 → bitAnd k (bitAnd c h) ≡ 0
 apart-cells k c h e = same-digits _ _ (λ j. let d = disjoint-digit k h e j in simp (digit-and, digit-zero) (omega arith))
+
+apart-part : (k c v : ℕ) → bitAnd k c ≡ 0 → bitAnd k (bitAnd c v) ≡ 0
+apart-part k c v e = rw (and-comm c v) (apart-cells k v c e)
+
+apart-within : (k c p v : ℕ) → bitAnd k c ≡ 0 → bitAnd k (bitAnd p (bitAnd c v)) ≡ 0
+apart-within k c p v e = apart-cells k p (bitAnd c v) (apart-part k c v e)
 
 -- the bit, where a test holds
 bit-in-home : (s : Settings) (b : Bool) (i : ℕ) → i < 16 → hasBit (s .«event_homes») (2 ^ i) ≡ not b → (t : Bool) → bitAnd (cond t (2 ^ i) 0) (statusIn s b) ≡ 0
