@@ -21,12 +21,13 @@ use Rattle.model.specs.Answer.{firstApplying}
 use Rattle.model.specs.Bus.{wrongWidth, dataTooWide, leadsNowhere, allowed, isTimer, commandLost, readOf}
 use Rattle.model.specs.Control.{setsSlpEn, typAfter, completes, armedAfter, namedState, namesNone, bmRldAfter, gblRlsAfter, controlled}
 use Rattle.model.specs.Effect.{unmoved, done, unlessRefused, eventWrite, completing, controlWrite, stsByte, enByte, gpeWrite, writeEffect, registerWrite, effectOf}
-use Rattle.model.specs.Ports.{walk, registerAt, offsetAt}
+use Rattle.ports.specs.Walk.{walk}
+use Rattle.ports.specs.declared.Place.{Place}
+use Rattle.model.specs.Ports.{registerIn, offsetIn, registerAt, offsetAt}
 use Rattle.model.specs.Step.{writeRefusals, answerTo}
 use Rattle.model.specs.declared.Access.{Access}
 use Rattle.model.specs.declared.Answer.the-variants as answer
 use Rattle.model.specs.declared.Effect.{Effect}
-use Rattle.model.specs.declared.Place.{Place}
 use Rattle.model.specs.declared.Register.{Register}
 use Rattle.model.specs.declared.Register.the-variants as register
 use Rattle.model.specs.declared.Step.the-variants as step
@@ -131,15 +132,22 @@ module _ (m : Machine) (width offset written : ℕ) (x : Effect) where
 
 -- ---- the lines before the register's
 
+-- what an access reaches, by the place that the walk gives
+pub reaches : (s : Settings) (port : ℕ) (p : Place) (r : Register) (offset : ℕ) → p ≡ walk s port → r ≡ registerIn p → offset ≡ offsetIn p
+    → (r ≡ registerAt s port) × (offset ≡ offsetAt s port)
+unfolding registerAt offsetAt
+reaches s port p r offset w e f = (e ∙ ap registerIn w, f ∙ ap offsetIn w)
+
 -- a write with what its port leads to
 abbrev writing : Machine → Register → ℕ → ℕ → ℕ → Effect
 writing m r width offset written = unlessRefused m (firstApplying (writeRefusals m r width offset written) (answer.Done 0)) (writeEffect m r width offset written)
 
 -- a write is refused by its first lines, or comes to what its register says
-module _ (m : Machine) (a : Access) (written : ℕ) (place : Place) (leads : place ≡ walk (m .settings) (a .port)) (x : Effect) where
-  write-at : x ≡ writing m (place .register) (a .width) (place .offset) written → x ≡ effectOf m (step.Write a written)
-  unfolding effectOf answerTo registerAt offsetAt
-  write-at q = q ∙ ap (λ (p : Place). writing m (p .register) (a .width) (p .offset) written) leads
+module _ (m : Machine) (a : Access) (written : ℕ) (r : Register) (offset : ℕ)
+    (leads : (r ≡ registerAt (m .settings) (a .port)) × (offset ≡ offsetAt (m .settings) (a .port))) (x : Effect) where
+  write-at : x ≡ writing m r (a .width) offset written → x ≡ effectOf m (step.Write a written)
+  unfolding effectOf answerTo
+  write-at q = q ∙ rw (leads .0, leads .1) refl
 
   pub write-asleep : awake m ≡ false → x ≡ unmoved (scalarsOf m) answer.Asleep → x ≡ effectOf m (step.Write a written)
   unfolding firstApplying
@@ -156,12 +164,12 @@ module _ (m : Machine) (a : Access) (written : ℕ) (place : Place) (leads : pla
       write-too-wide e q = write-at (rw (w, right, e) q)
 
       module _ (fit : dataTooWide (a .width) written ≡ false) where
-        pub write-not-allowed : allowed (place .register) (a .width) (place .offset) ≡ false → x ≡ unmoved (scalarsOf m) answer.NotAllowed
+        pub write-not-allowed : allowed r (a .width) offset ≡ false → x ≡ unmoved (scalarsOf m) answer.NotAllowed
             → x ≡ effectOf m (step.Write a written)
         unfolding firstApplying
-        write-not-allowed e q = write-at (rw (w, right, fit, refused-leads (place .register) (a .width) (place .offset) e, e) q)
+        write-not-allowed e q = write-at (rw (w, right, fit, refused-leads r (a .width) offset e, e) q)
 
-        pub write-reaches : (low : ℕ) → low ≡ written % 2 ^ 32 → x ≡ registerWrite m (place .register) (a .width) (place .offset) low
+        pub write-reaches : (low : ℕ) → low ≡ written % 2 ^ 32 → x ≡ registerWrite m r (a .width) offset low
             → x ≡ effectOf m (step.Write a written)
         unfolding firstApplying registerWrite
         write-reaches low l q =

@@ -1,6 +1,12 @@
 // Bus accesses.
 mod cell_rules;
 
+use accesses::allowed;
+use accesses::data_too_wide;
+use accesses::leads_nowhere;
+use accesses::offset_in;
+use accesses::register_in;
+use accesses::wrong_width;
 use cell_rules::read_cells;
 use cell_rules::write_cells;
 use machine::Machine;
@@ -8,20 +14,15 @@ use machine::awake;
 use model::Access;
 use model::Answer;
 use model::Effect;
-use model::Place;
 use model::Register;
 use model::Transfer;
-use ports::allowed;
-use ports::data_too_wide;
-use ports::leads_nowhere;
 use ports::walk;
-use ports::wrong_width;
 ghost use mathlib.Core.Path.{_≡_};
 ghost use Prim.Native.Nat.{_%_, _^_};
 ghost use Rattle.model.specs.Answer.{firstApplying};
 ghost use Rattle.model.specs.Bus.{readOf};
 ghost use Rattle.model.specs.Effect.{effectOf};
-ghost use Rattle.model.specs.Ports.{walk};
+ghost use Rattle.model.specs.Ports.{registerAt, offsetAt};
 ghost use Rattle.model.specs.Step.{readRefusals, busStep};
 ghost use Rattle.model.specs.declared.Answer.the-variants as answer;
 ghost use Rattle.model.specs.declared.Step.the-variants as step;
@@ -48,12 +49,11 @@ fn read_answer(m: Machine, r: Register, width: u32, offset: u64) -> Answer
 }
 
 // A read changes nothing.
-fn read(m: Machine, access: Access, place: Place) -> Effect
-    requires { ⌜ place ≡ walk (m .settings) (access .port) ⌝ }
-    ensures { λ r. ⌜ r ≡ effectOf m (step.Read access) ⌝ }
+fn read(m: Machine, access: Access, r: Register, offset: u64) -> Effect
+    requires { ⌜ (r ≡ registerAt (m .settings) (access .port)) × (offset ≡ offsetAt (m .settings) (access .port)) ⌝ }
+    ensures { λ result. ⌜ result ≡ effectOf m (step.Read access) ⌝ }
 {
-    let r = place.register;
-    model::unmoved(m.scalars(), read_answer(m, r, access.width, place.offset))
+    model::unmoved(m.scalars(), read_answer(m, r, access.width, offset))
 }
 
 // What is written; wider data is refused, so no bit is lost.
@@ -64,13 +64,11 @@ fn low(written: u64) -> u32
 }
 
 // 20 to 22 and 24; else what the register says.
-fn write(m: Machine, access: Access, place: Place, written: u64) -> Effect
-    requires { ⌜ place ≡ walk (m .settings) (access .port) ⌝ }
-    ensures { λ r. ⌜ r ≡ effectOf m (step.Write access written) ⌝ }
+fn write(m: Machine, access: Access, r: Register, offset: u64, written: u64) -> Effect
+    requires { ⌜ (r ≡ registerAt (m .settings) (access .port)) × (offset ≡ offsetAt (m .settings) (access .port)) ⌝ }
+    ensures { λ result. ⌜ result ≡ effectOf m (step.Write access written) ⌝ }
 {
     let width = access.width;
-    let r = place.register;
-    let offset = place.offset;
     if awake(m.state) {
         if wrong_width(width) {
             return model::unmoved(m.scalars(), Answer::WrongWidth);
@@ -95,9 +93,11 @@ pub fn access(m: Machine, t: Transfer) -> Effect
     let s = m.settings;
     let access = t.access;
     let place = walk(s, access.port);
+    let r = register_in(place);
+    let offset = offset_in(place);
     if t.writes {
-        write(m, access, place, t.written)
+        write(m, access, r, offset, t.written)
     } else {
-        read(m, access, place)
+        read(m, access, r, offset)
     }
 }

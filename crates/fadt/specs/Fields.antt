@@ -19,8 +19,8 @@ unfoldable pub dword : List ℕ → ℕ → ℕ
 dword t i = byte t i + 256 * byte t (i + 1) + 65536 * byte t (i + 2) + 16777216 * byte t (i + 3)
 
 -- a block from the offsets of its address and its length
-abbrev pub blockOf : List ℕ → ℕ → ℕ → Block
-blockOf t address length = block (dword t address) (byte t length)
+abbrev pub blockFrom : List ℕ → ℕ → ℕ → Block
+blockFrom t address length = block (dword t address) (byte t length)
 
 -- "A PM1b block with address zero is absent": its length counts for nothing then, and is kept as zero
 abbrev pub pm1Block : List ℕ → ℕ → ℕ → Block
@@ -37,10 +37,10 @@ settingsOf t event-homes control-homes power-override pairs =
       «pm1b_evt» = pm1Block t «PM1b_EVT_BLK» «PM1_EVT_LEN»;
       «pm1a_cnt» = pm1Block t «PM1a_CNT_BLK» «PM1_CNT_LEN»;
       «pm1b_cnt» = pm1Block t «PM1b_CNT_BLK» «PM1_CNT_LEN»;
-      «pm2_cnt» = blockOf t «PM2_CNT_BLK» «PM2_CNT_LEN»;
-      «pm_tmr» = blockOf t «PM_TMR_BLK» «PM_TMR_LEN»;
-      gpe0 = blockOf t «GPE0_BLK» «GPE0_BLK_LEN»;
-      gpe1 = blockOf t «GPE1_BLK» «GPE1_BLK_LEN»;
+      «pm2_cnt» = blockFrom t «PM2_CNT_BLK» «PM2_CNT_LEN»;
+      «pm_tmr» = blockFrom t «PM_TMR_BLK» «PM_TMR_LEN»;
+      gpe0 = blockFrom t «GPE0_BLK» «GPE0_BLK_LEN»;
+      gpe1 = blockFrom t «GPE1_BLK» «GPE1_BLK_LEN»;
       «gpe1_base» = byte t «GPE1_BASE»;
       flags = dword t «FLAGS»;
       «event_homes» = event-homes;

@@ -38,7 +38,7 @@ ghost use Rattle.fadt.specs.Table.{
   wrongSum,
   setUpRules,
 };
-ghost use Rattle.fadt.specs.Fields.{dword, blockOf, pm1Block, settingsOf};
+ghost use Rattle.fadt.specs.Fields.{dword, blockFrom, pm1Block, settingsOf};
 
 const FACP: [u8; 4] = *b"FACP";
 
@@ -198,7 +198,7 @@ fn wrong_sum(table: &[u8]) -> bool
 }
 
 fn block(table: &[u8], address: u8, length: u8) -> Block
-    ensures { λ r. ⌜ r ≡ blockOf (now (table .entry)) address length ⌝ }
+    ensures { λ r. ⌜ r ≡ blockFrom (now (table .entry)) address length ⌝ }
 {
     let first = dword_at(table, address) as u64;
     let n = byte_at(table, length) as u32;

@@ -1,7 +1,7 @@
 -- A text written piece by piece is written whole: each piece at the place where the one before it ends. Assumes nothing.
 use mathlib.Core.Bool.{Bool, cond}
 use mathlib.Core.List.{List, [], _∷_, _++_, append-assoc}
-use mathlib.Core.Path.{_≡_, refl, sym, _∙_, ap}
+use mathlib.Core.Path.{_≡_, refl, _∙_, ap}
 use Prim.Native.Nat.{ℕ, _+_, _-_, _^_, _≤_, _<_}
 use native.Mathlib.Omega.{arith}
 use borrow.Author.Tests.{le-leb, lt-leb}
@@ -12,16 +12,12 @@ use mir.Val.{Fits}
 use Rattle.text.specs.Numbers.{digits, digitCount}
 use Rattle.text.specs.Parts.{tab, lf}
 use Rattle.text.proofs.Digits.{digits-length}
-use Rattle.text.proofs.Stores.{sets-then}
+use Rattle.text.proofs.Stores.{two-writes}
 use Rattle.listing.specs.Entry.{decimal, flag, stateDigit, stateText, tail, fields, entry, entryLength, putAt}
 use Rattle.machine.specs.declared.Machine.{Machine}
 use Rattle.machine.specs.Lines.{sciOf, smiOf}
 use Rattle.model.specs.Answer.{stepNumber, stepValue}
 use Rattle.model.specs.declared.Answer.{Answer}
-
-pub two-writes : (l : List ℕ) (at j : ℕ) (xs ys first second : List ℕ) → first ≡ sets l at xs → at + length xs ≡ j → second ≡ sets first j ys
-    → second ≡ sets l at (xs ++ ys)
-two-writes l at j xs ys first second e p f = f ∙ ap (λ (b : List ℕ). sets b j ys) e ∙ sym (sets-then l at j xs ys p)
 
 -- digits, and a text after them
 pub after-digits : (b width n : ℕ) (l : List ℕ) (at : ℕ) (ys first second : List ℕ) → first ≡ sets l at (digits b width n)

@@ -1,9 +1,10 @@
--- The laws of `any`, `anyTwo`, `anyOf` and `firstAt`: one turn of a loop over the rest of a list and its end, and what a failed search tells of each place.
+-- The laws of `any`, `anyTwo`, `anyOf` and `firstAt`: one turn of a loop over the rest of a list and its end, and what a failed search tells of each place;
+-- and the element of a list of images.
 -- Assumes nothing.
 use mathlib.Core.Path.{_≡_, refl}
 use mathlib.Core.Bool.{Bool, true, false, cond, _||_}
-use mathlib.Core.List.{List, [], _∷_}
-use Prim.Native.Nat.{ℕ, zero, suc, _+_, _≤_, _<_, zero-le, suc-le-suc}
+use mathlib.Core.List.{List, [], _∷_, map}
+use Prim.Native.Nat.{ℕ, zero, suc, _+_, _≤_, _<_}
 use native.Mathlib.Numerals.{add-one}
 use native.Mathlib.Omega.{arith}
 use native.Mathlib.Nat.{le-of-suc-le-suc, not-suc-le-zero}
@@ -87,20 +88,8 @@ module _ {A : Type 0} (d : A) (f : A → Bool) where
   unfolding firstAt
   first-at-end xs i h = rw (drop-of-length-le xs h) (omega arith)
 
--- where some element passes, so does the first found
-first-within : {A : Type 0} (d : A) (f : A → Bool) (xs : List A) (i : ℕ) → i < length xs → f (getD xs i d) ≡ true
-    → (firstAt f xs < length xs) × (f (getD xs (firstAt f xs) d) ≡ true)
-unfolding firstAt
-first-within d f [] i h e = absurd (not-suc-le-zero h)
-first-within d f (x ∷ xs) zero h e = rw e (suc-le-suc zero-le, e)
-first-within d f (x ∷ xs) (suc i) h e = go (f x) refl (first-within d f xs i (le-of-suc-le-suc h) e)
-  where
-    go : (t : Bool) → f x ≡ t → (firstAt f xs < length xs) × (f (getD xs (firstAt f xs) d) ≡ true)
-        → (cond t 0 (suc (firstAt f xs)) < suc (length xs)) × (f (getD (x ∷ xs) (cond t 0 (suc (firstAt f xs))) d) ≡ true)
-    go true p ih = (suc-le-suc zero-le, p)
-    go false p ih = (suc-le-suc (ih .0), ih .1)
-
--- a test that one place alone passes finds that place
-pub first-is : {A : Type 0} (d : A) (f : A → Bool) (xs : List A) (i : ℕ) → i < length xs → f (getD xs i d) ≡ true
-    → ((j : ℕ) → j < length xs → f (getD xs j d) ≡ true → j ≡ i) → firstAt f xs ≡ i
-first-is d f xs i h e alone = let found = first-within d f xs i h e in alone (firstAt f xs) (found .0) (found .1)
+-- an element within a list of images, whatever stands past its end
+pub map-within : {A B : Type 0} (f : A → B) (d : A) (e : B) (xs : List A) (i : ℕ) → i < length xs → getD (map f xs) i e ≡ f (getD xs i d)
+map-within f d e [] i h = absurd (not-suc-le-zero h)
+map-within f d e (x ∷ xs) zero h = refl
+map-within f d e (x ∷ xs) (suc i) h = map-within f d e xs i (le-of-suc-le-suc h)

@@ -4,7 +4,6 @@ use mathlib.Core.Bool.{Bool, true, false, _&&_}
 use mathlib.Core.List.{List, [], _∷_, List·Memᴰ, List·Memᴰ·head, List·Memᴰ·tail, List·Memᴰ·not-nil}
 use mathlib.Core.Path.{_≡_, refl}
 use Rattle.lists.proofs.Tests.{and-left, and-right}
-use Rattle.lists.specs.Any.{firstAt}
 use Rattle.cells.specs.Cells.{flagOf, bitAt, maskOf}
 use Rattle.clock.specs.AtOnce.{offWithin, ranOf, counterAfter, turnsIn, holdAfter}
 use Rattle.platform.specs.Blocks.{present, holds}
@@ -17,6 +16,7 @@ use Rattle.model.specs.Answer.{firstApplying}
 use Rattle.model.specs.Bus.{wrongWidth, dataTooWide, leadsNowhere, allowed, isTimer, commandLost, readOf, writeOf}
 use Rattle.model.specs.Control.{namesNone, setsSlpEn, typAfter, completes, armedAfter, bmRldAfter, gblRlsAfter}
 use Rattle.model.specs.Events.{inS5, pressOf, pinOf, tmrRaised, timed, tickedBy, turnsBy, eventOf}
+use Rattle.ports.specs.Walk.{walkOver}
 use Rattle.model.specs.Ports.{registerAt, offsetAt}
 use Rattle.machine.specs.declared.Machine.{Machine}
 use Rattle.model.specs.Step.{ticks, answerTo, after, stepOf}
@@ -39,7 +39,7 @@ each-holds (x ∷ rs) e r (List·Memᴰ·tail at) = each-holds rs (and-right (ro
 
 -- the test over the whole list
 pub rows-pass : allHold rows ≡ true
-unfolding allHold stepsHold sameRegisters answerAtOnce afterAtOnce answerTo firstApplying awake wrongWidth dataTooWide leadsNowhere allowed isTimer commandLost namesNone readOf writeOf setsSlpEn typAfter completes bmRldAfter registerAt offsetAt firstAt holds present hasBit inStatus inEnable statusAfter enableAfter controlIn coversLow coversHigh writtenBit maskOf flagOf bitAt timed tmrRaised offWithin ranOf counterAfter turnsIn holdAfter pressOf pinOf inS5 isSleeping armedAfter gblRlsAfter completed pending wakeBits absent samePair named firstFrom eventOf
+unfolding allHold stepsHold sameRegisters answerAtOnce afterAtOnce answerTo firstApplying awake wrongWidth dataTooWide leadsNowhere allowed isTimer commandLost namesNone readOf writeOf setsSlpEn typAfter completes bmRldAfter registerAt offsetAt walkOver holds present hasBit inStatus inEnable statusAfter enableAfter controlIn coversLow coversHigh writtenBit maskOf flagOf bitAt timed tmrRaised offWithin ranOf counterAfter turnsIn holdAfter pressOf pinOf inS5 isSleeping armedAfter gblRlsAfter completed pending wakeBits absent samePair named firstFrom eventOf
 rows-pass = refl
 
 -- the marked cases: what each row of the list claims of `stepOf` holds

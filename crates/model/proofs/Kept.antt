@@ -4,16 +4,16 @@
 use mathlib.Core.Bool.{Bool, true, false, not, cond, _&&_, _||_, or-true, false≢true}
 use mathlib.Core.List.{List, [], _∷_}
 use mathlib.Core.Path.{_≡_, refl, sym, _∙_}
-use Prim.Native.Nat.{ℕ, zero, suc, _+_, _%_, _^_, _<_}
-use native.Mathlib.Nat.{le-of-suc-le-suc, not-suc-le-zero, add-zero, mod-lt}
+use Prim.Native.Nat.{ℕ, suc, _+_, _%_, _^_, _<_}
+use native.Mathlib.Nat.{add-zero, mod-lt}
 use native.Mathlib.Omega.{arith}
 use borrow.Author.Tests.{eqb-true, not-false}
 use lib.Bits.{bitAnd}
-use lib.Dec.{eqb, lit<}
-use lib.ListN.{length, getD, drop}
+use lib.Dec.{eqb}
+use lib.ListN.{getD, drop}
 use lib.Pow.{pow-pos}
 use lib.Seq.{getD-drop}
-use Rattle.lists.specs.Any.{any, firstAt}
+use Rattle.lists.specs.Any.{any}
 use Rattle.lists.proofs.Tests.{or-left, and-left, and-right}
 use Rattle.bits.specs.Writes.{kept, takenBy, within}
 use Rattle.cells.specs.Cells.{cells}
@@ -22,11 +22,16 @@ use Rattle.clock.specs.AtOnce.{offWithin as overriddenIn, ranOf, counterAfter, 
 use Rattle.clock.specs.Clock.{counterBits}
 use Rattle.platform.specs.Blocks.{present, holds, noBlock}
 use Rattle.platform.specs.Fitted.{statusCells, enableCells, wideTimer}
-use Rattle.platform.specs.Legal.{blockAt}
-use Rattle.platform.specs.Rules.{smiBlock, blockCount, blocksOf}
+use Rattle.platform.specs.FadtBlocks.{smiBlock, blockOf}
 use Rattle.platform.specs.declared.block.Block.{Block}
+use Rattle.platform.specs.declared.block.FadtBlock.{FadtBlock}
+use Rattle.platform.specs.declared.block.FadtBlock.the-variants as fadt
 use Rattle.platform.specs.declared.settings.Settings.{Settings}
 use Rattle.platform.proofs.Legal.{holds-from}
+use Rattle.ports.specs.Walk.{walk, Means}
+use Rattle.ports.specs.declared.Place.{Place}
+use Rattle.ports.specs.declared.Place.the-variants as place
+use Rattle.ports.proofs.Theorems.{walk-means}
 use Rattle.machine.specs.Status.{pwrbtnBit, pciexpWakeBit}
 use Rattle.registers.specs.Registers.{enableIn, covered, placed, inStatus, inEnable, onesIn, statusAfter, enableAfter, hasPm1bCnt, coversHigh, writtenBit}
 use Rattle.machine.specs.Fields.{withEvent, withControl, withCommand, withButton, withArbDis, withSciEn, withTime, withWakePin, enter}
@@ -42,7 +47,7 @@ use Rattle.model.specs.Events.{StatusBit, pm1, pm1Mask, sourceOf, eventM
 use Rattle.model.specs.Firmware.{isAcpiEnable, enablesAfter, sciEnAfter}
 use Rattle.model.specs.EventKinds.{EventKind}
 use Rattle.model.specs.Legal.{absentPair, stateAllowed}
-use Rattle.model.specs.Ports.{registers, placeAt, registerAt, offsetAt}
+use Rattle.model.specs.Ports.{blockRegister, registerIn, offsetIn, registerAt, offsetAt}
 use Rattle.model.specs.Step.{registerOf, offsetOf, unfitted, refusalsOf, doneOf, answerTo, accepted, after}
 use Rattle.model.specs.declared.Answer.the-variants as answer
 use Rattle.model.specs.declared.Event.{Event}
@@ -59,52 +64,42 @@ use Rattle.model.proofs.Ticks.{ticks-closed-form}
 
 -- ---- the block that a port leads to
 
-abbrev pub blockOf : Settings → Register → Block
-blockOf s register.SmiCmd = smiBlock s
-blockOf s (register.Pm1Evt b) = cond b (s .«pm1b_evt») (s .«pm1a_evt»)
-blockOf s (register.Pm1Cnt b) = cond b (s .«pm1b_cnt») (s .«pm1a_cnt»)
-blockOf s register.Pm2Cnt = s .«pm2_cnt»
-blockOf s register.PmTmr = s .«pm_tmr»
-blockOf s (register.Gpe b) = cond b (s .gpe1) (s .gpe0)
-blockOf s register.Nowhere = noBlock
+-- the block of a register
+abbrev pub registerBlock : Settings → Register → Block
+registerBlock s register.SmiCmd = smiBlock s
+registerBlock s (register.Pm1Evt b) = cond b (s .«pm1b_evt») (s .«pm1a_evt»)
+registerBlock s (register.Pm1Cnt b) = cond b (s .«pm1b_cnt») (s .«pm1a_cnt»)
+registerBlock s register.Pm2Cnt = s .«pm2_cnt»
+registerBlock s register.PmTmr = s .«pm_tmr»
+registerBlock s (register.Gpe b) = cond b (s .gpe1) (s .gpe0)
+registerBlock s register.Nowhere = noBlock
 
 -- the register's block is there, and the offset is one of its bytes
 abbrev pub Reached : Settings → Register → ℕ → Type 0
-Reached s r offset = leadsNowhere r ≡ false → (present (blockOf s r) ≡ true) × (offset < blockOf s r .length)
-
-first-found : {A : Type 0} (d : A) (f : A → Bool) (xs : List A) → firstAt f xs < length xs → f (getD xs (firstAt f xs) d) ≡ true
-unfolding firstAt
-first-found d f [] h = absurd (not-suc-le-zero h)
-first-found d f (x ∷ xs) h = go (f x) refl (first-found d f xs) h
-  where
-    go : (t : Bool) → f x ≡ t → (firstAt f xs < length xs → f (getD xs (firstAt f xs) d) ≡ true)
-        → cond t 0 (suc (firstAt f xs)) < suc (length xs) → f (getD (x ∷ xs) (cond t 0 (suc (firstAt f xs))) d) ≡ true
-    go true p more h = p
-    go false p more h = more (le-of-suc-le-suc h)
+Reached s r offset = leadsNowhere r ≡ false → (present (registerBlock s r) ≡ true) × (offset < registerBlock s r .length)
 
 module _ (s : Settings) where
-  place-block : (k : ℕ) → leadsNowhere (getD registers k register.Nowhere) ≡ false
-      → (k < blockCount) × (blockAt s k ≡ blockOf s (getD registers k register.Nowhere))
-  unfolding leadsNowhere
-  place-block zero e = (lit< tt, refl)
-  place-block (suc zero) e = (lit< tt, refl)
-  place-block (suc (suc zero)) e = (lit< tt, refl)
-  place-block (suc (suc (suc zero))) e = (lit< tt, refl)
-  place-block (suc (suc (suc (suc zero)))) e = (lit< tt, refl)
-  place-block (suc (suc (suc (suc (suc zero))))) e = (lit< tt, refl)
-  place-block (suc (suc (suc (suc (suc (suc zero)))))) e = (lit< tt, refl)
-  place-block (suc (suc (suc (suc (suc (suc (suc zero))))))) e = (lit< tt, refl)
-  place-block (suc (suc (suc (suc (suc (suc (suc (suc zero)))))))) e = (lit< tt, refl)
-  place-block (suc (suc (suc (suc (suc (suc (suc (suc (suc k))))))))) e =
-      let no : _≡_ {A = ℕ} 0 1 = cc in absurd (omega arith)
+  -- the block of a block's register is that block
+  block-back : (b : FadtBlock) → registerBlock s (blockRegister b) ≡ blockOf s b
+  block-back fadt.SmiCmd = refl
+  block-back fadt.Pm1aEvtBlk = refl
+  block-back fadt.Pm1bEvtBlk = refl
+  block-back fadt.Pm1aCntBlk = refl
+  block-back fadt.Pm1bCntBlk = refl
+  block-back fadt.Pm2CntBlk = refl
+  block-back fadt.PmTmrBlk = refl
+  block-back fadt.Gpe0Blk = refl
+  block-back fadt.Gpe1Blk = refl
 
   pub reached : (port : ℕ) → Reached s (registerAt s port) (offsetAt s port)
-  unfolding registerAt offsetAt
-  reached port n =
-      let (h, e) = place-block (placeAt s port) n in
-      let inside : holds (blockAt s (placeAt s port)) port ≡ true = first-found noBlock (λ b. holds b port) (blocksOf s) h in
-      let (p, low, high) = holds-from (blockAt s (placeAt s port)) port inside in
-      rw (← e) (p, omega arith)
+  unfolding registerAt offsetAt leadsNowhere
+  reached port = go (walk s port) (walk-means s port)
+    where
+      go : (p : Place) → Means s port p → Reached s (registerIn p) (offsetIn p)
+      go (place.In b offset) m n =
+          let (p, low, high) = holds-from (blockOf s b) port (m .inside) in
+          rw (block-back b) (p, omega (arith, m .at))
+      go place.Nowhere m n = absurd (false≢true (sym n))
 
 -- ---- the state that a pair names
 

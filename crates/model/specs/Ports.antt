@@ -1,46 +1,37 @@
--- Where a port leads.
+-- Where a port leads: what the walk over the blocks gives, as a register and an offset in its block.
 use mathlib.Core.Bool.{true, false}
-use mathlib.Core.List.{List, [], _∷_}
-use Prim.Native.Nat.{ℕ, _-_}
-use lib.ListN.{getD}
-use Rattle.lists.specs.Any.{firstAt}
-use Rattle.platform.specs.Blocks.{holds}
-use Rattle.platform.specs.Legal.{blockAt}
-use Rattle.platform.specs.Rules.{blocksOf}
-use Rattle.platform.specs.declared.block.Block.{Block}
+use Prim.Native.Nat.{ℕ}
+use Rattle.platform.specs.declared.block.FadtBlock.{FadtBlock}
+use Rattle.platform.specs.declared.block.FadtBlock.the-variants as fadt
 use Rattle.platform.specs.declared.settings.Settings.{Settings}
-use Rattle.model.specs.declared.Place.{Place}
+use Rattle.ports.specs.Walk.{walk}
+use Rattle.ports.specs.declared.Place.{Place}
+use Rattle.ports.specs.declared.Place.the-variants as place
 use Rattle.model.specs.declared.Register.{Register}
 use Rattle.model.specs.declared.Register.the-variants as register
 
--- the registers of the blocks, in the blocks' order
-abbrev pub registers : List Register
-registers =
-    register.SmiCmd ∷
-    register.Pm1Evt false ∷
-    register.Pm1Evt true ∷
-    register.Pm1Cnt false ∷
-    register.Pm1Cnt true ∷
-    register.Pm2Cnt ∷
-    register.PmTmr ∷
-    register.Gpe false ∷
-    register.Gpe true ∷
-    []
+abbrev pub blockRegister : FadtBlock → Register
+blockRegister fadt.SmiCmd = register.SmiCmd
+blockRegister fadt.Pm1aEvtBlk = register.Pm1Evt false
+blockRegister fadt.Pm1bEvtBlk = register.Pm1Evt true
+blockRegister fadt.Pm1aCntBlk = register.Pm1Cnt false
+blockRegister fadt.Pm1bCntBlk = register.Pm1Cnt true
+blockRegister fadt.Pm2CntBlk = register.Pm2Cnt
+blockRegister fadt.PmTmrBlk = register.PmTmr
+blockRegister fadt.Gpe0Blk = register.Gpe false
+blockRegister fadt.Gpe1Blk = register.Gpe true
 
--- the first block that holds the port, by its place in the order
-abbrev pub placeAt : Settings → ℕ → ℕ
-placeAt s port = firstAt (λ b. holds b port) (blocksOf s)
+abbrev pub registerIn : Place → Register
+registerIn (place.In b offset) = blockRegister b
+registerIn place.Nowhere = register.Nowhere
 
--- the register, and how far the port lies past its block's first
-abbrev pub placed : Register → Block → ℕ → Place
-placed register b port = record { register = register; offset = port - b .address }
-
--- one walk over the blocks: the register that the port leads to, and the port's offset in its block
-abbrev pub walk : Settings → ℕ → Place
-walk s port = placed (getD registers (placeAt s port) register.Nowhere) (blockAt s (placeAt s port)) port
+-- nowhere it is 0: no rule looks at it, since 23 is given first
+abbrev pub offsetIn : Place → ℕ
+offsetIn (place.In b offset) = offset
+offsetIn place.Nowhere = 0
 
 unfoldable pub registerAt : Settings → ℕ → Register
-registerAt s port = walk s port .register
+registerAt s port = registerIn (walk s port)
 
 unfoldable pub offsetAt : Settings → ℕ → ℕ
-offsetAt s port = walk s port .offset
+offsetAt s port = offsetIn (walk s port)

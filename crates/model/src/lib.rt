@@ -84,7 +84,7 @@ pub struct Effect {
     pub next: NextState,
 }
 
-// Where a port leads; of two blocks, true is block B, or GPE1.
+// The registers that a port may lead to; of two blocks, true is block B, or GPE1.
 pub enum Register {
     SmiCmd,
     Pm1Evt(bool),
@@ -93,12 +93,6 @@ pub enum Register {
     PmTmr,
     Gpe(bool),
     Nowhere,
-}
-
-// The register that a port leads to, and the port's offset in its block.
-pub struct Place {
-    pub register: Register,
-    pub offset: u64,
 }
 
 // Document 01's number of an answer, and its value.

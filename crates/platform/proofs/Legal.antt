@@ -16,13 +16,18 @@ use Rattle.bits.proofs.Writes.{within-masked}
 use Rattle.bits.proofs.Digits.{below-or-beyond}
 use Rattle.cells.specs.Cells.{flagOf}
 use Rattle.sleep.specs.Pairs.{outOfRange, shared, sleepRefused}
-use Rattle.platform.specs.Answer.{Rule, _when_}
+use Rattle.platform.specs.Answer.{Rule, _when_, firstFailing}
 use Rattle.platform.specs.Blocks.{present, holds, overlap, portLimit, passesPorts, noBlock}
-use Rattle.platform.specs.Rules.{blockCount, blocksOf, gpeLongest, eventCount, hardwareReduced, wrongBlockLength, wrongGpeLength, justOneZero, lengthTests, lengthRefused, misaligned, placeTests, placeRefused, overlapRefused, gpeRefused, commandsRefused, homesWithoutBlock, homeTests, homesRefused, sleepPairsRefused, settingsRules}
-use Rattle.platform.specs.Legal.{strayLength, legalTests, legalSettings, HasLength, HasGpeLength, HasNone, blockAt, Guaranteed}
+use Rattle.platform.specs.FadtBlocks.{blockOf, blockCount, blocksOf}
+use Rattle.platform.specs.Rules.{gpeLongest, eventCount, hardwareReduced, wrongBlockLength, wrongGpeLength, justOneZero, lengthTests, lengthRefused, misaligned, placeTests, placeRefused, overlapRefused, gpeRefused, commandsRefused, homesWithoutBlock, homeTests, homesRefused, sleepPairsRefused, settingsRules}
+use Rattle.platform.specs.Legal.{strayLength, legalTests, legalSettings, HasLength, HasGpeLength, HasNone, OneBlock, Guaranteed}
 use Rattle.platform.specs.declared.block.Block.{Block}
+use Rattle.platform.specs.declared.block.FadtBlock.{FadtBlock}
 use Rattle.platform.specs.declared.settings.Settings.{Settings}
+use Rattle.platform.specs.declared.rules.SetUpAnswer.the-variants as answer
 use Rattle.platform.specs.declared.rules.SetUpRefusal.the-variants as refusal
+use Rattle.platform.proofs.Answers.{done-passes}
+use Rattle.platform.proofs.FadtOrder.{nameAt, each, block-at}
 
 -- ---- the test
 
@@ -131,18 +136,26 @@ overlap-shares-port a b la lb e =
     go pa pb false false p q z = let no : _≡_ {A = ℕ} 0 1 = cc in absurd (zero-one no)
 
 module _ (s : Settings) (e : overlapRefused s ≡ false) (port : ℕ) where
-  apart : (i j : ℕ) → i < j → j < blockCount → holds (blockAt s i) port ≡ true → holds (blockAt s j) port ≡ true → ⊥
+  apart : (i j : ℕ) → i < j → j < blockCount → holds (blockOf s (nameAt i)) port ≡ true → holds (blockOf s (nameAt j)) port ≡ true → ⊥
   unfolding overlapRefused
   apart i j h k hi hj =
-      let no : overlap (blockAt s i) (blockAt s j) ≡ false = any-two-none noBlock overlap (blocksOf s) e i j h k in
-      let yes : overlap (blockAt s i) (blockAt s j) ≡ true = shared-port-overlaps (blockAt s i) (blockAt s j) port hi hj in
+      let no : overlap (getD (blocksOf s) i noBlock) (getD (blocksOf s) j noBlock) ≡ false = any-two-none noBlock overlap (blocksOf s) e i j h k in
+      let i< : i < blockCount = omega arith in
+      let named : overlap (blockOf s (nameAt i)) (blockOf s (nameAt j)) ≡ false = rw (block-at s i i<, block-at s j k) at no in
+      let yes : overlap (blockOf s (nameAt i)) (blockOf s (nameAt j)) ≡ true = shared-port-overlaps (blockOf s (nameAt i)) (blockOf s (nameAt j)) port hi hj in
       let z : _≡_ {A = ℕ} 0 1 = cc in
       omega arith
 
-  same-block : (i j : ℕ) → i < blockCount → j < blockCount → holds (blockAt s i) port ≡ true → holds (blockAt s j) port ≡ true → i ≡ j
-  same-block i j i< j< hi hj =
+  same-place : (i j : ℕ) → i < blockCount → j < blockCount → holds (blockOf s (nameAt i)) port ≡ true → holds (blockOf s (nameAt j)) port ≡ true → i ≡ j
+  same-place i j i< j< hi hj =
       below-or-beyond i j (λ h. absurd (apart i j h j< hi hj))
       (λ h. below-or-beyond j i (λ k. absurd (apart j i k i< hj hi)) (λ k. omega arith))
+
+pub same-block : (s : Settings) → overlapRefused s ≡ false → OneBlock s
+same-block s e port =
+    each (λ b. (c : FadtBlock) → holds (blockOf s b) port ≡ true → holds (blockOf s c) port ≡ true → b ≡ c)
+    (λ i i<. each (λ c. holds (blockOf s (nameAt i)) port ≡ true → holds (blockOf s c) port ≡ true → nameAt i ≡ c)
+    (λ j j< hi hj. ap nameAt (same-place s e port i j i< j< hi hj)))
 
 -- ---- all of it
 
@@ -189,6 +202,11 @@ module _ (s : Settings) (e : any (λ r. r .refused) (settingsRules s) ≡ false)
   unfolding hardwareReduced
   reduced = line 0 (lit< tt)
 
+  within-each : (b : FadtBlock) → blockOf s b .address + blockOf s b .length ≤ portLimit
+  within-each =
+      each (λ b. blockOf s b .address + blockOf s b .length ≤ portLimit)
+      (λ i h. within-port-space (blockOf s (nameAt i)) (rw (block-at s i h) at (any-none noBlock passesPorts (blocksOf s) (place-test 7 (lit< tt)) i h)))
+
   guaranteed : strayLength (s .«pm1b_evt») ≡ false → strayLength (s .«pm1b_cnt») ≡ false → Guaranteed s
   guaranteed evt cnt =
       record {
@@ -214,7 +232,7 @@ module _ (s : Settings) (e : any (λ r. r .refused) (settingsRules s) ≡ false)
         tmr-aligned = aligned 4 _ (place-test 4 (lit< tt));
         cnt-a-aligned = aligned 2 _ (place-test 5 (lit< tt));
         cnt-b-aligned = aligned 2 _ (place-test 6 (lit< tt));
-        within-ports = λ i h. within-port-space (blockAt s i) (any-none noBlock passesPorts (blocksOf s) (place-test 7 (lit< tt)) i h);
+        within-ports = within-each;
         one-block = same-block s (line 3 (lit< tt));
         gpe1-above-gpe0 = λ h. numbers h .0;
         gpe1-numbers = λ h. numbers h .1;
@@ -233,3 +251,7 @@ unfolding legalSettings
 legal-guaranteed s e =
     let each : (i : ℕ) → i < 3 → getD (legalTests s) i true ≡ false = any-of-none (legalTests s) (not-true _ e) in
     guaranteed s (each 0 (lit< tt)) (each 1 (lit< tt)) (each 2 (lit< tt))
+
+-- no two blocks share a port where lines 5 to 12 accept
+pub accepted-one-block : (s : Settings) → firstFailing (settingsRules s) ≡ answer.Done → OneBlock s
+accepted-one-block s e = same-block s (line s (done-passes (settingsRules s) e) 3 (lit< tt))

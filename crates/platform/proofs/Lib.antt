@@ -1,4 +1,5 @@
 pub mod Ports
 pub mod Overlap
 pub mod Answers
+pub mod FadtOrder
 pub mod Legal

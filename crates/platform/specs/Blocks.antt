@@ -12,7 +12,7 @@ block address length = record { address = address; length = length }
 unfoldable pub present : Block → Bool
 present b = not (eqb (b .address) 0)
 
--- the port is one of the block's
+-- the block is present, and the port is one of its own
 unfoldable pub holds : Block → ℕ → Bool
 holds b port = present b && (leb (b .address) port && ltb (port - b .address) (b .length))
 

@@ -10,9 +10,11 @@ use Rattle.lists.specs.Any.{any, anyOf}
 use Rattle.acpi.specs.Fadt.{«HW_REDUCED_ACPI»}
 use Rattle.cells.specs.Cells.{flagOf}
 use Rattle.sleep.specs.Pairs.{outOfRange, shared}
-use Rattle.platform.specs.Blocks.{present, holds, portLimit, noBlock}
-use Rattle.platform.specs.Rules.{blockCount, blocksOf, gpeLongest, eventCount, settingsRules}
+use Rattle.platform.specs.Blocks.{present, holds, portLimit}
+use Rattle.platform.specs.FadtBlocks.{blockOf}
+use Rattle.platform.specs.Rules.{gpeLongest, eventCount, settingsRules}
 use Rattle.platform.specs.declared.block.Block.{Block}
+use Rattle.platform.specs.declared.block.FadtBlock.{FadtBlock}
 use Rattle.platform.specs.declared.settings.Settings.{Settings}
 
 -- an absent block that has a length all the same; that no PM1b block is one is one value for each meaning: no text can break it
@@ -38,9 +40,9 @@ HasGpeLength b = present b ≡ true → (b .length % 2 ≡ 0) × (2 ≤ b .lengt
 abbrev pub HasNone : Block → Type 0
 HasNone b = present b ≡ false → b .length ≡ 0
 
--- the blocks by their place in the FADT's order, SMI_CMD being 0
-abbrev pub blockAt : Settings → ℕ → Block
-blockAt s i = getD (blocksOf s) i noBlock
+-- a port inside a present block belongs to that block alone
+abbrev pub OneBlock : Settings → Type 0
+OneBlock s = (port : ℕ) (b c : FadtBlock) → holds (blockOf s b) port ≡ true → holds (blockOf s c) port ≡ true → b ≡ c
 
 -- what the test means, and so what every accepted set-up gives
 pub record Guaranteed (s : Settings) : Type 0 where
@@ -66,9 +68,8 @@ pub record Guaranteed (s : Settings) : Type 0 where
   pub tmr-aligned : s .«pm_tmr» .address % 4 ≡ 0
   pub cnt-a-aligned : s .«pm1a_cnt» .address % 2 ≡ 0
   pub cnt-b-aligned : s .«pm1b_cnt» .address % 2 ≡ 0
-  pub within-ports : (i : ℕ) → i < blockCount → blockAt s i .address + blockAt s i .length ≤ portLimit
-  -- a port inside a present block belongs to that block alone
-  pub one-block : (port i j : ℕ) → i < blockCount → j < blockCount → holds (blockAt s i) port ≡ true → holds (blockAt s j) port ≡ true → i ≡ j
+  pub within-ports : (b : FadtBlock) → blockOf s b .address + blockOf s b .length ≤ portLimit
+  pub one-block : OneBlock s
   pub gpe1-above-gpe0 : present (s .gpe1) ≡ true → eventCount (s .gpe0) ≤ s .«gpe1_base»
   pub gpe1-numbers : present (s .gpe1) ≡ true → s .«gpe1_base» + eventCount (s .gpe1) ≤ 256
   pub commands-differ : (s .«smi_cmd» ≡ 0 → ⊥) → s .«acpi_enable» ≡ s .«acpi_disable» → ⊥

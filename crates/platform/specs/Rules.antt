@@ -9,23 +9,11 @@ use Rattle.bits.specs.Writes.{within}
 use Rattle.cells.specs.Cells.{flagOf}
 use Rattle.sleep.specs.Pairs.{sleepRefused}
 use Rattle.platform.specs.Answer.{Rule, _when_}
-use Rattle.platform.specs.Blocks.{block, present, overlap, passesPorts}
+use Rattle.platform.specs.Blocks.{present, overlap, passesPorts}
+use Rattle.platform.specs.FadtBlocks.{blocksOf}
 use Rattle.platform.specs.declared.block.Block.{Block}
 use Rattle.platform.specs.declared.settings.Settings.{Settings}
 use Rattle.platform.specs.declared.rules.SetUpRefusal.the-variants as refusal
-
--- "SMI_CMD, if nonzero, is a one-byte block"
-abbrev pub smiBlock : Settings → Block
-smiBlock s = block (s .«smi_cmd») 1
-
--- SMI_CMD and the eight blocks of the FADT
-abbrev pub blockCount : ℕ
-blockCount = 9
-
--- the blocks in the order of their FADT address fields, SMI_CMD first
-abbrev pub blocksOf : Settings → List Block
-blocksOf s =
-    smiBlock s ∷ s .«pm1a_evt» ∷ s .«pm1b_evt» ∷ s .«pm1a_cnt» ∷ s .«pm1b_cnt» ∷ s .«pm2_cnt» ∷ s .«pm_tmr» ∷ s .gpe0 ∷ s .gpe1 ∷ []
 
 -- 5: "flag bit 20 (hardware-reduced) is set"
 unfoldable pub hardwareReduced : Settings → Bool

@@ -1,4 +1,4 @@
-// A block of I/O ports.
+// A block of I/O ports, and the blocks by name.
 ghost use mathlib.Core.Path.{_≡_};
 ghost use Prim.Native.Nat.{_-_, _<_};
 ghost use Rattle.platform.specs.Blocks.{block, present, holds, overlap, passesPorts};
@@ -19,6 +19,19 @@ impl Block {
     {
         Block { address, length }
     }
+}
+
+// SMI_CMD and the blocks, by the names of their FADT address fields and in the FADT's order.
+pub enum FadtBlock {
+    SmiCmd,
+    Pm1aEvtBlk,
+    Pm1bEvtBlk,
+    Pm1aCntBlk,
+    Pm1bCntBlk,
+    Pm2CntBlk,
+    PmTmrBlk,
+    Gpe0Blk,
+    Gpe1Blk,
 }
 
 pub fn is_present(b: Block) -> bool

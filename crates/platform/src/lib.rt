@@ -4,6 +4,7 @@ mod rules;
 mod settings;
 
 pub use block::Block;
+pub use block::FadtBlock;
 pub use block::PORTS;
 pub use block::holds_port;
 pub use block::is_present;

@@ -16,8 +16,8 @@ ghost use lib.Dec.{ltb};
 ghost use Rattle.lists.specs.Any.{any};
 ghost use Rattle.platform.specs.Answer.{refusalNumber, refusalValue, setUpNumber, setUpValue, firstFailing};
 ghost use Rattle.platform.specs.Blocks.{passesPorts};
+ghost use Rattle.platform.specs.FadtBlocks.{blocksOf};
 ghost use Rattle.platform.specs.Rules.{
-  blocksOf,
   hardwareReduced,
   wrongBlockLength,
   wrongGpeLength,

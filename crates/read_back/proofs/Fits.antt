@@ -19,6 +19,7 @@ use Rattle.cells.specs.declared.Column.the-variants as column
 use Rattle.cells.proofs.Masks.{mask-small}
 use Rattle.platform.specs.Blocks.{present}
 use Rattle.platform.specs.Legal.{Guaranteed}
+use Rattle.platform.specs.declared.block.FadtBlock.the-variants as fadt
 use Rattle.platform.proofs.Legal.{legal-guaranteed}
 use Rattle.machine.specs.declared.Machine.{Machine}
 use Rattle.registers.specs.Registers.{bitWhen, homesIn, controlIn, controlRegister, slpTyp}
@@ -106,17 +107,17 @@ module _ (m : Machine) (e : legal m ≡ true) where
   all-fit =
       let s = m .settings in
       let command = command-small m (l .command-byte) in
-      hex-row "SMI_CMD" 16 _ _ _ (omega (arith, g .within-ports 0 (lit< tt)))
+      hex-row "SMI_CMD" 16 _ _ _ (omega (arith, g .within-ports fadt.SmiCmd))
       (hex-row "ACPI_ENABLE" 2 _ _ _ (f .enable)
       (hex-row "ACPI_DISABLE" 2 _ _ _ (f .disable)
-      (hex-row "PM1a_EVT_BLK" 16 _ _ _ (omega (arith, g .within-ports 1 (lit< tt)))
-      (hex-row "PM1b_EVT_BLK" 16 _ _ _ (omega (arith, g .within-ports 2 (lit< tt)))
-      (hex-row "PM1a_CNT_BLK" 16 _ _ _ (omega (arith, g .within-ports 3 (lit< tt)))
-      (hex-row "PM1b_CNT_BLK" 16 _ _ _ (omega (arith, g .within-ports 4 (lit< tt)))
-      (hex-row "PM2_CNT_BLK" 16 _ _ _ (omega (arith, g .within-ports 5 (lit< tt)))
-      (hex-row "PM_TMR_BLK" 16 _ _ _ (omega (arith, g .within-ports 6 (lit< tt)))
-      (hex-row "GPE0_BLK" 16 _ _ _ (omega (arith, g .within-ports 7 (lit< tt)))
-      (hex-row "GPE1_BLK" 16 _ _ _ (omega (arith, g .within-ports 8 (lit< tt)))
+      (hex-row "PM1a_EVT_BLK" 16 _ _ _ (omega (arith, g .within-ports fadt.Pm1aEvtBlk))
+      (hex-row "PM1b_EVT_BLK" 16 _ _ _ (omega (arith, g .within-ports fadt.Pm1bEvtBlk))
+      (hex-row "PM1a_CNT_BLK" 16 _ _ _ (omega (arith, g .within-ports fadt.Pm1aCntBlk))
+      (hex-row "PM1b_CNT_BLK" 16 _ _ _ (omega (arith, g .within-ports fadt.Pm1bCntBlk))
+      (hex-row "PM2_CNT_BLK" 16 _ _ _ (omega (arith, g .within-ports fadt.Pm2CntBlk))
+      (hex-row "PM_TMR_BLK" 16 _ _ _ (omega (arith, g .within-ports fadt.PmTmrBlk))
+      (hex-row "GPE0_BLK" 16 _ _ _ (omega (arith, g .within-ports fadt.Gpe0Blk))
+      (hex-row "GPE1_BLK" 16 _ _ _ (omega (arith, g .within-ports fadt.Gpe1Blk))
       (hex-row "PM1_EVT_LEN" 2 _ _ _ (rw (g .evt-a-length (g .evt-a-present)) (lit< tt))
       (hex-row "PM1_CNT_LEN" 2 _ _ _ (rw (g .cnt-a-length (g .cnt-a-present)) (lit< tt))
       (hex-row "PM2_CNT_LEN" 2 _ _ _ (length-small (s .«pm2_cnt») 1 (lit< tt) (g .pm2-length) (g .pm2-none))

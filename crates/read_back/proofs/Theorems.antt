@@ -12,8 +12,7 @@ use Rattle.text.specs.Parts.{sameText}
 use Rattle.text.proofs.Equal.{same-equal, same-self}
 use Rattle.runs.specs.Items.{after as afterAll, Throughout}
 use Rattle.records.specs.Ascii.{ascii}
-use Rattle.records.specs.Rows.{rows}
-use Rattle.records.proofs.RowFacts.{noRow}
+use Rattle.records.specs.Rows.{rows, noRow}
 use Rattle.records.proofs.ReadBack.{added-reads}
 use Rattle.machine.specs.PowerOn.{allZero}
 use Rattle.machine.specs.declared.Machine.{Machine}

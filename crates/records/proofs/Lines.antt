@@ -7,14 +7,14 @@ use lib.ListN.{length, getD, take, drop, set, length-take, length-drop}
 use lib.Seq.{sets, drop-drop, length-take-le}
 use Rattle.text.specs.Numbers.{digits, numberOf}
 use Rattle.text.specs.Parts.{tab, lf}
-use Rattle.records.specs.Rows.{Row, rowCount, rows}
+use Rattle.records.specs.Rows.{Row, rowCount, rows, noRow}
 use Rattle.records.specs.Records.{formed, recordText, textIn, recordsText, recordLength, lengthIn, recordsLength, valueIn, readIn, valuesIn}
 use Rattle.records.specs.Table.{numberAt, formOf, rowOf, rowsOf, IsLine, IsTable}
-use Rattle.records.proofs.RowFacts.{Sound, noRow, row-count, row-sound}
+use Rattle.records.proofs.RowFacts.{Sound, row-count, row-sound}
 use Rattle.records.proofs.Turns.{record-written, length-turn, write-turn, read-turn}
 
 module _ (line : List ℕ) (w : IsLine line) where
-  name-length : length (rowOf line .name) ≡ numberAt 17 line
+  pub name-length : length (rowOf line .name) ≡ numberAt 17 line
   unfolding rowOf
   name-length = length-take-le (numberAt 17 line) line (omega arith)
 
@@ -54,7 +54,7 @@ rows-of-at (suc count) table (suc i) d h =
 
 module _ (table : List ℕ) (t : IsTable table) (i : ℕ) (h : i < rowCount) where
   -- line i says row i
-  line-row : rowOf (lineAt table i) ≡ getD rows i noRow
+  pub line-row : rowOf (lineAt table i) ≡ getD rows i noRow
   line-row = sym (rows-of-at rowCount table i noRow h) ∙ ap (λ (rs : List Row). getD rs i noRow) (t .1)
 
   line-sound : Sound (rowOf (lineAt table i))

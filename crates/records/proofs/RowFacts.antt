@@ -1,6 +1,5 @@
 -- The table's facts, each computed once. Assumes nothing.
 use mathlib.Core.Bool.{Bool, false, _||_}
-use mathlib.Core.List.{[]}
 use mathlib.Core.Path.{_≡_, refl}
 use Prim.Native.Nat.{ℕ, _≤_, _<_}
 use native.Mathlib.Omega.{arith}
@@ -11,7 +10,7 @@ use Rattle.lists.specs.Any.{any}
 use Rattle.lists.proofs.Search.{any-none}
 use Rattle.lists.proofs.Tests.{or-left, or-right}
 use Rattle.records.specs.Ascii.{ascii}
-use Rattle.records.specs.Rows.{Row, rowCount, rows}
+use Rattle.records.specs.Rows.{Row, rowCount, rows, noRow}
 use Rattle.records.specs.Records.{recordsLength}
 
 -- a row that would not do: a name of more than 16 bytes, no name, no digit, or more digits than a number has
@@ -52,10 +51,6 @@ first-edition-length = refl
 pub second-edition-length : recordsLength 2 rows ≡ 680
 unfolding rows ascii recordsLength
 second-edition-length = refl
-
--- what an index past the table would read
-abbrev pub noRow : Row
-noRow = record { name = []; form = 0; width = 0; since = 0; initial = 0 }
 
 pub row-sound : (i : ℕ) → i < rowCount → Sound (getD rows i noRow)
 row-sound i h = sound _ (any-none noRow unsound rows rows-sound i (omega (arith, row-count)))

@@ -2,6 +2,7 @@
 use mathlib.Core.List.{List, [], _∷_}
 use Prim.Native.Nat.{ℕ}
 use Prim.Native.String.{String}
+use lib.ListN.{getD}
 use Rattle.records.specs.Ascii.{ascii}
 
 -- the forms of a value: hex digits; a flag, 0 or 1; a command, 000, or 1 and the byte
@@ -82,3 +83,11 @@ rows =
     row "STATE" hex 1 ∷
     added "WAKE_PIN" flag 1 2 0 ∷
     []
+
+-- what an index past the table reads
+abbrev pub noRow : Row
+noRow = record { name = []; form = 0; width = 0; since = 0; initial = 0 }
+
+-- a record's name, by its place in the table
+abbrev pub recordName : ℕ → List ℕ
+recordName i = getD rows i noRow .name

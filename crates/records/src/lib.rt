@@ -30,7 +30,7 @@ ghost use mathlib.Core.Path.{_≡_};
 ghost use Prim.Native.Nat.{_+_, _≤_, _<_, _^_};
 ghost use lib.ListN.{length, drop};
 ghost use lib.Seq.{sets};
-ghost use Rattle.records.specs.Rows.{rows};
+ghost use Rattle.records.specs.Rows.{rows, recordName};
 ghost use Rattle.records.specs.Table.{rowOf, IsLine, IsTable};
 ghost use Rattle.records.specs.Records.{
   commandOf,
@@ -142,6 +142,27 @@ fn write_record(buf: &mut [u8], at: usize, line: &[u8], v: u64) -> usize
     write_hex(buf, digits, formed(form, v), width);
     write_byte(buf, digits + width, LF);
     size + 1 + width + 1
+}
+
+// A record's name, by its place in the table, from a place on; the answer is its length. Past the table there is none.
+pub fn write_name(buf: &mut [u8], at: usize, i: usize) -> usize
+    ensures { λ n. ⌜ (n ≡ length (recordName i)) × (now (buf .exit) ≡ sets (now (buf .entry)) at (recordName i)) ⌝ }
+{
+    if i < RECORDS {
+        let lines = table();
+        return name_in(buf, at, part_at(&lines, i * LINE, LINE));
+    }
+    0
+}
+
+fn name_in(buf: &mut [u8], at: usize, line: &[u8]) -> usize
+    requires { ⌜ IsLine (now line) ⌝ }
+    ensures { λ n. ⌜
+        (n ≡ length (rowOf (now (line .entry)) .name)) × (now (buf .exit) ≡ sets (now (buf .entry)) at (rowOf (now (line .entry)) .name)) ⌝ }
+{
+    let count = number_at(line, SIZE);
+    write_text(buf, at, part_at(line, 0, count));
+    count
 }
 
 // The values of an edition's records from a place on, whatever the text is: 0 where no number stands, and its power-on setting for a record that the

@@ -4,7 +4,7 @@ use mathlib.Core.Bool.{false}
 use mathlib.Core.List.{List, [], _∷_}
 use mathlib.Core.Path.{_≡_, refl, _∙_, ap, subst}
 use Prim.Native.Nat.{ℕ}
-use Rattle.lists.specs.Any.{any, anyTwo, firstAt}
+use Rattle.lists.specs.Any.{any, anyTwo}
 use Rattle.bits.specs.Digit.{digit}
 use Rattle.bits.specs.Writes.{within}
 use Rattle.cells.specs.Cells.{flagOf, bitAt, maskOf}
@@ -30,6 +30,7 @@ use Rattle.model.specs.Answer.{firstApplying}
 use Rattle.model.specs.Bus.{wrongWidth, dataTooWide, leadsNowhere, allowed, isTimer, commandLost, readOf, writeOf}
 use Rattle.model.specs.Control.{setsSlpEn, typAfter, completes, armedAfter, namesNone, bmRldAfter, gblRlsAfter}
 use Rattle.model.specs.Events.{inS5, pressOf, signalOf, pinOf, inGpe0, inGpe1, generalRaised, generalEnabled, generalOf, tmrRaised, timed, tickedOnce, tickedBy, turnedOnce, turnsBy, eventOf}
+use Rattle.ports.specs.Walk.{walkOver}
 use Rattle.model.specs.Ports.{registerAt, offsetAt}
 use Rattle.model.specs.Raises.{signalChange, pressChange, eventChange, ruleChange, raises}
 use Rattle.model.specs.Step.{answerTo, after}
@@ -175,5 +176,5 @@ press-homes = refl
 
 -- to unfold this is to unfold what a step of the machine, and a list of them, compute with
 unfoldable pub steps-compute : Unit {0}
-unfolding any firstAt digit flagOf bitAt maskOf turned grow overrides tickOf absent samePair named firstFrom present holds hasBit inStatus inEnable statusAfter enableAfter controlIn coversLow coversHigh writtenBit awake anyEnabled isSleeping wakeBits pending completed firstApplying wrongWidth dataTooWide leadsNowhere allowed isTimer commandLost readOf setsSlpEn typAfter completes armedAfter namesNone bmRldAfter gblRlsAfter writeOf inS5 pressOf signalOf pinOf inGpe0 inGpe1 generalRaised generalEnabled generalOf tmrRaised timed tickedOnce tickedBy turnedOnce turnsBy eventOf registerAt offsetAt signalChange pressChange eventChange ruleChange raises answerTo after livesInB RaisedIn passing failing original moved stepsOf Every Run afterAll Throughout Awake
+unfolding any walkOver digit flagOf bitAt maskOf turned grow overrides tickOf absent samePair named firstFrom present holds hasBit inStatus inEnable statusAfter enableAfter controlIn coversLow coversHigh writtenBit awake anyEnabled isSleeping wakeBits pending completed firstApplying wrongWidth dataTooWide leadsNowhere allowed isTimer commandLost readOf setsSlpEn typAfter completes armedAfter namesNone bmRldAfter gblRlsAfter writeOf inS5 pressOf signalOf pinOf inGpe0 inGpe1 generalRaised generalEnabled generalOf tmrRaised timed tickedOnce tickedBy turnedOnce turnsBy eventOf registerAt offsetAt signalChange pressChange eventChange ruleChange raises answerTo after livesInB RaisedIn passing failing original moved stepsOf Every Run afterAll Throughout Awake
 steps-compute = tt

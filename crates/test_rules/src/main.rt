@@ -1,6 +1,9 @@
 // The rules below the steps, shown: for each case its name and the number that comes of it, in hex, on each side of a limit.
 use cells::Column;
 use libc::STDOUT_FILENO;
+use platform::Block;
+use platform::Settings;
+use ports::Place;
 
 fn main() {
     status();
@@ -10,6 +13,7 @@ fn main() {
     hold();
     states();
     power_on();
+    walk();
 }
 
 fn line(name: &[u8], value: u64) {
@@ -155,4 +159,37 @@ fn power_on() {
     s.smi_cmd = 0xB2;
     let acpi = machine::power_on(s);
     flag(b"SCI_EN at power-on, SMI_CMD B2", acpi.sci_en);
+}
+
+// The offset that the walk finds; FF where it finds none.
+fn offset(s: Settings, port: u64) -> u64 {
+    match ports::walk(s, port) {
+        Place::In(_, at) => at,
+        Place::Nowhere => 0xFF,
+    }
+}
+
+// Two blocks that share ports, as no rule has judged them: the port is the first one's.
+fn walk() {
+    let zero = machine::all_zero();
+    let mut s = zero.settings;
+    line(b"walk, no block: port 0", offset(s, 0));
+    s.pm1a_cnt = Block::new(0x402, 2);
+    s.gpe0 = Block::new(0x400, 8);
+    line(
+        b"walk, PM1a_CNT_BLK 402 and GPE0_BLK 400: port 401",
+        offset(s, 0x401),
+    );
+    line(
+        b"walk, PM1a_CNT_BLK 402 and GPE0_BLK 400: port 402",
+        offset(s, 0x402),
+    );
+    line(
+        b"walk, PM1a_CNT_BLK 402 and GPE0_BLK 400: port 404",
+        offset(s, 0x404),
+    );
+    line(
+        b"walk, PM1a_CNT_BLK 402 and GPE0_BLK 400: port 408",
+        offset(s, 0x408),
+    );
 }

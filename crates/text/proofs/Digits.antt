@@ -4,11 +4,11 @@ use mathlib.Core.Path.{_≡_, refl, sym, ap, _∙_}
 use mathlib.Core.Bool.{Bool, true, false, cond, _&&_}
 use mathlib.Core.List.{List, [], _∷_, _++_, append-assoc, append-nil}
 use Prim.Native.Nat.{ℕ, zero, suc, _+_, _*_, _/_, _%_, _^_, _≤_, _<_}
-use native.Mathlib.Nat.{add-zero, add-suc, suc-add, zero-add, mul-one, mul-assoc, mul-le-mul-right, mul-le-mul-left, mod-lt, div-add-mod', div-lt-iff-lt-mul, pow-le-pow-right, suc-mul, pow-zero, pow-suc, pow-succ', lt-of-lt-of-le, one-mul}
+use native.Mathlib.Nat.{add-zero, add-suc, suc-add, zero-add, mul-one, mul-assoc, mul-le-mul-right, mul-le-mul-left, mod-lt, div-add-mod', div-lt-iff-lt-mul, pow-le-pow-right, suc-mul, pow-zero, pow-suc, pow-succ', one-le-pow, lt-of-lt-of-le, one-mul}
 use native.Mathlib.Numerals.{add-one}
 use native.Mathlib.Omega.{arith}
 use borrow.Author.Tests.{ltb-true, ltb-false, lt-ltb, le-ltb, le-leb, leb-true, eqb-true, eq-eqb, ne-eqb}
-use lib.Arith.{digits-div, digits-mod}
+use lib.Arith.{digits-div, digits-mod, mod-mul}
 use lib.Dec.{ltb, leb, eqb}
 use lib.ListN.{length, length-append}
 use Rattle.lists.specs.Any.{any}
@@ -95,6 +95,14 @@ module _ (b : ℕ) (two : 1 < b) where
 
   pub longer : (n k : ℕ) → n / b < b ^ k → n < b ^ suc k
   longer n k h = rw pow-suc (div-lt-iff-lt-mul some .0 h)
+
+  -- what lies above the digits that are written shows in none of them
+  pub digits-low : (k n : ℕ) → digits b k (n % b ^ k) ≡ digits b k n
+  unfolding digits
+  digits-low zero n = refl
+  digits-low (suc k) n =
+      let low : n % b ^ suc k ≡ n / b % b ^ k * b + n % b = rw pow-suc (mod-mul n (one-le-pow k b some) some) in
+      rw (low, digits-div (n / b % b ^ k) (mod-lt n some), digits-mod (n / b % b ^ k) (mod-lt n some), digits-low k (n / b)) refl
 
   module _ (most : b ≤ 16) where
     glyph-back : (n : ℕ) → digitOf (glyph (n % b)) ≡ n % b

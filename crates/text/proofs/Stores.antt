@@ -1,6 +1,6 @@
 -- Laws of a write, the kit's `sets`: one after another, its own bytes and no other, and a loop's turns. By recursion on the bytes.
 -- Assumes nothing.
-use mathlib.Core.Path.{_≡_, refl, sym, _∙_}
+use mathlib.Core.Path.{_≡_, refl, sym, ap, _∙_}
 use mathlib.Core.List.{List, [], _∷_, _++_, append-assoc}
 use Prim.Native.Nat.{ℕ, suc, _+_, _≤_, _<_}
 use mathlib.Core.Logic.{_⊎_, ⊎-elim}
@@ -22,6 +22,11 @@ sets-append l i (x ∷ xs) ys = rw (onward i (length xs)) (sets-append (set l i 
 -- two texts stored, where the second one's place is known by an equation
 pub sets-then : (l : List ℕ) (i j : ℕ) (xs ys : List ℕ) → i + length xs ≡ j → sets l i (xs ++ ys) ≡ sets (sets l i xs) j ys
 sets-then l i j xs ys e = rw (← e) (sets-append l i xs ys)
+
+-- the same, of the buffers after each
+pub two-writes : (l : List ℕ) (at j : ℕ) (xs ys first second : List ℕ) → first ≡ sets l at xs → at + length xs ≡ j → second ≡ sets first j ys
+    → second ≡ sets l at (xs ++ ys)
+two-writes l at j xs ys first second e p f = f ∙ ap (λ (b : List ℕ). sets b j ys) e ∙ sym (sets-then l at j xs ys p)
 
 -- a byte before the text is as it was
 pub sets-before : (l : List ℕ) (i : ℕ) (xs : List ℕ) (j d : ℕ) → j < i → getD (sets l i xs) j d ≡ getD l j d

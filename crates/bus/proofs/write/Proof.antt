@@ -21,7 +21,7 @@ returns : tie.Need-returns
 unfolding awake
 returns c =
     let at : _ = c .before .before .before .before .before .before in
-    write-wrong-width _ _ _ _ (at .pre) _ (sym (c .before .before .before .before .before .awake .ensures) ∙ c .before .before .before .before .if1 .taken) (sym (c .before .before .before .wrong-width .ensures) ∙ c .before .before .if2 .taken) (simp (c .unmoved .ensures, c .before .scalars .ensures))
+    write-wrong-width _ _ _ _ _ (at .pre) _ (sym (c .before .before .before .before .before .awake .ensures) ∙ c .before .before .before .before .if1 .taken) (sym (c .before .before .before .wrong-width .ensures) ∙ c .before .before .if2 .taken) (simp (c .unmoved .ensures, c .before .scalars .ensures))
 
 data-too-wide-requires : tie.Need-data-too-wide-requires
 data-too-wide-requires c κs = search needs
@@ -36,7 +36,7 @@ returns-2 : tie.Need-returns-2
 unfolding awake
 returns-2 c =
     let at : _ = c .before .before .before .before .before .before .before .before in
-    write-too-wide _ _ _ _ (at .pre) _ (sym (c .before .before .before .before .before .before .before .awake .ensures) ∙ c .before .before .before .before .before .before .if1 .taken) (sym (c .before .before .before .before .before .wrong-width .ensures) ∙ c .before .before .before .before .if2 .left) (sym (c .before .before .before .data-too-wide .ensures) ∙ c .before .before .if3 .taken) (simp (c .unmoved2 .ensures, c .before .scalars2 .ensures))
+    write-too-wide _ _ _ _ _ (at .pre) _ (sym (c .before .before .before .before .before .before .before .awake .ensures) ∙ c .before .before .before .before .before .before .if1 .taken) (sym (c .before .before .before .before .before .wrong-width .ensures) ∙ c .before .before .before .before .if2 .left) (sym (c .before .before .before .data-too-wide .ensures) ∙ c .before .before .if3 .taken) (simp (c .unmoved2 .ensures, c .before .scalars2 .ensures))
 
 allowed-requires : tie.Need-allowed-requires
 allowed-requires c κs = search needs
@@ -63,19 +63,19 @@ returns-3 : tie.Need-returns-3
 unfolding awake
 returns-3 c =
     let at : _ = c .before .before .before .before .before .before .before .before .before .before in
-    write-reaches _ _ _ _ (at .pre) _ (sym (c .before .before .before .before .before .before .before .before .before .awake .ensures) ∙ c .before .before .before .before .before .before .before .before .if1 .taken) (sym (c .before .before .before .before .before .before .before .wrong-width .ensures) ∙ c .before .before .before .before .before .before .if2 .left) (sym (c .before .before .before .before .before .data-too-wide .ensures) ∙ c .before .before .before .before .if3 .left) _ (c .before .low .ensures) (c .write-cells .ensures)
+    write-reaches _ _ _ _ _ (at .pre) _ (sym (c .before .before .before .before .before .before .before .before .before .awake .ensures) ∙ c .before .before .before .before .before .before .before .before .if1 .taken) (sym (c .before .before .before .before .before .before .before .wrong-width .ensures) ∙ c .before .before .before .before .before .before .if2 .left) (sym (c .before .before .before .before .before .data-too-wide .ensures) ∙ c .before .before .before .before .if3 .left) _ (c .before .low .ensures) (c .write-cells .ensures)
 
 returns-4 : tie.Need-returns-4
 unfolding awake
 returns-4 c =
     let at : _ = c .before .before .before .before .before .before .before .before .before .before in
-    write-not-allowed _ _ _ _ (at .pre) _ (sym (c .before .before .before .before .before .before .before .before .before .awake .ensures) ∙ c .before .before .before .before .before .before .before .before .if1 .taken) (sym (c .before .before .before .before .before .before .before .wrong-width .ensures) ∙ c .before .before .before .before .before .before .if2 .left) (sym (c .before .before .before .before .before .data-too-wide .ensures) ∙ c .before .before .before .before .if3 .left) (sym (c .before .before .before .allowed .ensures) ∙ c .before .before .if4 .left) (simp (c .unmoved3 .ensures, c .before .scalars3 .ensures))
+    write-not-allowed _ _ _ _ _ (at .pre) _ (sym (c .before .before .before .before .before .before .before .before .before .awake .ensures) ∙ c .before .before .before .before .before .before .before .before .if1 .taken) (sym (c .before .before .before .before .before .before .before .wrong-width .ensures) ∙ c .before .before .before .before .before .before .if2 .left) (sym (c .before .before .before .before .before .data-too-wide .ensures) ∙ c .before .before .before .before .if3 .left) (sym (c .before .before .before .allowed .ensures) ∙ c .before .before .if4 .left) (simp (c .unmoved3 .ensures, c .before .scalars3 .ensures))
 
 returns-5 : tie.Need-returns-5
 unfolding awake
 returns-5 c =
     let at : _ = c .before .before .before .before in
-    write-asleep _ _ _ _ (at .pre) _ (sym (c .before .before .before .awake .ensures) ∙ c .before .before .if1 .left) (simp (c .unmoved4 .ensures, c .before .scalars4 .ensures))
+    write-asleep _ _ _ _ _ (at .pre) _ (sym (c .before .before .before .awake .ensures) ∙ c .before .before .if1 .left) (simp (c .unmoved4 .ensures, c .before .scalars4 .ensures))
 
 pub write-spec : {M : Type 1} → statement M
 write-spec =
