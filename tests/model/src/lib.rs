@@ -1,12 +1,13 @@
 //! The ward laptop's power registers once more: document 01's machine as plain code over plain state.
-//! A module for each of its headings, and `saved` for request W2's text; the wake pin is request W3's. It shares nothing
-//! with the proved crates, so that the two can be compared.
+//! A module for each of its headings, `saved` for request W2's text, `port_map` for request W4's; the wake pin is request
+//! W3's. It shares nothing with the proved crates, so that the two can be compared.
 
 mod bus;
 mod cells;
 mod events;
 mod firmware;
 mod lines;
+mod port_map;
 pub mod saved;
 mod session;
 mod set_up;
@@ -15,6 +16,7 @@ mod steps;
 mod ticks;
 
 pub use cells::*;
+pub use port_map::port_map;
 pub use session::{read_script, session, session_end, set_up_answer, LIMIT};
 pub use set_up::{set_up, Block, Hardware, Settings};
 pub use steps::Step;
@@ -68,6 +70,8 @@ pub struct Machine {
     pub release: bool,
 }
 
+#[cfg(test)]
+mod port_map_tests;
 #[cfg(test)]
 mod saved_tests;
 #[cfg(test)]

@@ -1,6 +1,7 @@
 //! The model in the programs' place: reads `platform.fadt` and a script on standard input, prints the listing or nothing.
 //! With `--answer` it prints setting up's number instead, where the script reads; with `--save` the saved text of the
-//! end. With `--read` it reads a saved text on standard input, and prints its number; after 0 the text written again.
+//! end; with `--map` the table's port map. With `--read` it reads a saved text on standard input, and prints its number;
+//! after 0 the text written again.
 
 use std::io::{self, Read, Write};
 
@@ -13,6 +14,7 @@ fn main() -> io::Result<()> {
     let printed = match std::env::args().nth(1).as_deref() {
         Some("--answer") => model::set_up_answer(&table, &input).map(|answer| format!("{answer}\n").into_bytes()),
         Some("--save") => model::session_end(&table, &input).map(|machine| saved::write(&machine)),
+        Some("--map") => Some(model::port_map(&table)),
         Some("--read") => Some(read_back(&input)),
         _ => model::session(&table, &input),
     };

@@ -37,7 +37,8 @@ pub fn set_up_answer(table: &[u8], script: &[u8]) -> Option<u8> {
     Some(set_up(lent(table), &settings).err().unwrap_or(0))
 }
 
-fn lent(table: &[u8]) -> &[u8] {
+/// The bytes of a table that count.
+pub(crate) fn lent(table: &[u8]) -> &[u8] {
     &table[..table.len().min(LIMIT)]
 }
 

@@ -4,8 +4,8 @@ use std::collections::HashMap;
 
 use model::saved::{self, Broken, CLAUSES};
 use model::{
-    read_script, set_up, set_up_answer, Gpe, Hardware, Machine, Step, A, B, GBL_RLS, GPE_BYTES, HOLD_LIMIT, LIMIT,
-    PCIEXP_WAKE, PWRBTN, RTC, SLPBTN, SLP_EN, TMR,
+    port_map, read_script, set_up, set_up_answer, Gpe, Hardware, Machine, Step, A, B, GBL_RLS, GPE_BYTES, HOLD_LIMIT,
+    LIMIT, PCIEXP_WAKE, PWRBTN, RTC, SLPBTN, SLP_EN, TMR,
 };
 
 use crate::carried::Cut;
@@ -167,6 +167,10 @@ const OTHERS: &[&str] = &[
     "narrow tables",
 ];
 
+/// The blocks that a port map may lack.
+const MAPPED: [&str; 7] =
+    ["SMI_CMD", "PM1b_EVT_BLK", "PM1b_CNT_BLK", "PM2_CNT_BLK", "PM_TMR_BLK", "GPE0_BLK", "GPE1_BLK"];
+
 /// What the saved machines of the sessions have, at a cut or at the end.
 const SAVED: &[&str] = &[
     "saved: before the first step",
@@ -231,6 +235,10 @@ impl Coverage {
         names.extend(OTHERS.iter().map(|name| name.to_string()));
         names.extend(TABLES.iter().map(|table| format!("table: {}", table.name)));
         names.extend(SCRIPTS.iter().map(|script| format!("script: {}", script.name)));
+        names.push("map: none, the table refused".to_string());
+        for block in MAPPED {
+            names.extend(["present", "absent"].map(|which| format!("map: {block} {which}")));
+        }
         names.extend((0..=5).map(|state| format!("saved: S{state}")));
         names.extend(PLACES.map(|place| format!("saved: {place}, the pin active")));
         names.extend(SAVED.iter().map(|name| name.to_string()));
@@ -275,6 +283,7 @@ impl Coverage {
 
     /// Counts a session; an error where the model does not see in it what it was made for.
     pub fn session(&mut self, session: &Session) -> Result<(), String> {
+        self.map(&session.table);
         let script = read_script(&session.script);
         let answer = set_up_answer(&session.table, &session.script);
         match session.kind {
@@ -313,6 +322,19 @@ impl Coverage {
             self.whole_steps += steps.len() as u64;
         }
         Ok(())
+    }
+
+    /// Counts a port map.
+    fn map(&mut self, table: &[u8]) {
+        let map = port_map(table);
+        if map.is_empty() {
+            return self.count("map: none, the table refused");
+        }
+        let map = String::from_utf8_lossy(&map);
+        for block in MAPPED {
+            let listed = map.lines().any(|line| line.split('\t').next() == Some(block));
+            self.count(&format!("map: {block} {}", if listed { "present" } else { "absent" }));
+        }
     }
 
     /// Demand 3 on a whole session: checks it on the model, and gives the moved list's script.

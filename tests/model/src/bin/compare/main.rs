@@ -43,7 +43,7 @@ const USAGE: &str =
        tests/compare --find      the first seed or text that finds each fault
        tests/compare --states SEED N [FOLDER]
                                  N saved texts, damaged or not, and what the model answers to each
-BENCH names another bench than target/bin/bench; why, save and resume stand beside it.";
+BENCH names another bench than target/bin/bench; why, save, resume and port_map stand beside it.";
 
 /// The project's folder, the programs, a run's saved texts, and a temporary folder for each worker.
 pub struct Places {
@@ -247,8 +247,8 @@ fn again(places: &Places, case: Case) -> Result<(), String> {
     Ok(())
 }
 
-/// One session, left in a folder with both listings and saved texts; its moved list and what stands on both sides of the
-/// cut beside.
+/// One session, left in a folder with both listings, saved texts and port maps; its moved list and what stands on both
+/// sides of the cut beside.
 fn one_seed(places: &Places, seed: u64) -> Result<(), String> {
     let session = Session::of(seed);
     let folder = places.root.join(format!("target/tests/seed-{seed}"));
@@ -269,9 +269,10 @@ fn one_seed(places: &Places, seed: u64) -> Result<(), String> {
         for (name, outcome) in [("expected", &expected), ("got", &got)] {
             leave(folder, name, &outcome.listing)?;
             leave(folder, &format!("{name}.saved"), &outcome.end)?;
+            leave(folder, &format!("{name}.map"), &outcome.map)?;
         }
         println!(
-            "{}: platform.fadt, script; expected (the model's), got (the programs'), both saved",
+            "{}: platform.fadt, script; expected (the model's), got (the programs'), both saved and mapped",
             folder.display()
         );
         result = result.and(expected.same_as(&got));

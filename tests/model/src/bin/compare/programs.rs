@@ -14,6 +14,8 @@ pub struct Outcome {
     pub set_up: Option<u8>,
     /// The saved text of the end; empty where nothing is printed.
     pub end: Vec<u8>,
+    /// The table's port map; empty where nothing is printed.
+    pub map: Vec<u8>,
 }
 
 impl Outcome {
@@ -22,6 +24,7 @@ impl Outcome {
             listing: model::session(table, script).unwrap_or_default(),
             set_up: model::set_up_answer(table, script),
             end: model::session_end(table, script).map_or(Vec::new(), |machine| saved::write(&machine)),
+            map: model::port_map(table),
         }
     }
 
@@ -31,7 +34,8 @@ impl Outcome {
         if self.set_up != got.set_up {
             return Err(format!("setting up: expected {:?}, got {:?}", self.set_up, got.set_up));
         }
-        same("saved text of the end", &self.end, &got.end)
+        same("saved text of the end", &self.end, &got.end)?;
+        same("port map", &self.map, &got.map)
     }
 }
 
@@ -75,8 +79,8 @@ pub fn same(what: &str, expected: &[u8], got: &[u8]) -> Result<(), String> {
     Err(format!("{what}, line {}: expected {}, got {}", at + 1, show(expected.get(at)), show(got.get(at))))
 }
 
-/// The programs under test. All but `resume` run a session where the folder has a `platform.fadt`, and `why` and `save`
-/// go on from the saved text `state` where it has none.
+/// The programs under test. All but `resume` and `port_map` run a session where the folder has a `platform.fadt`, and
+/// `why` and `save` go on from the saved text `state` where it has none.
 pub struct Programs {
     /// The listing of a session, and of steps from a saved text.
     bench: PathBuf,
@@ -85,6 +89,8 @@ pub struct Programs {
     why: PathBuf,
     /// The saved text of the end.
     save: PathBuf,
+    /// The ports of the table's blocks.
+    port_map: PathBuf,
 }
 
 impl Programs {
@@ -92,11 +98,17 @@ impl Programs {
     pub fn of(root: &Path) -> Programs {
         let bench = std::env::var_os("BENCH").map_or(root.join("target/bin/bench"), PathBuf::from);
         let beside = |name: &str| bench.with_file_name(name);
-        Programs { resume: beside("resume"), why: beside("why"), save: beside("save"), bench }
+        Programs {
+            resume: beside("resume"),
+            why: beside("why"),
+            save: beside("save"),
+            port_map: beside("port_map"),
+            bench,
+        }
     }
 
     pub fn present(&self) -> Result<(), String> {
-        for program in [&self.bench, &self.resume, &self.why, &self.save] {
+        for program in [&self.bench, &self.resume, &self.why, &self.save, &self.port_map] {
             if !program.is_file() {
                 return Err(format!("{} is missing: build it with rt", program.display()));
             }
@@ -112,7 +124,8 @@ impl Programs {
         } else {
             why.strip_prefix("setting up is refused: ").and_then(|rest| rest.split(',').next()?.trim().parse().ok())
         };
-        Ok(Outcome { listing, set_up, end: run(&self.save, &[], folder)? })
+        let (end, map) = (run(&self.save, &[], folder)?, run(&self.port_map, &[], folder)?);
+        Ok(Outcome { listing, set_up, end, map })
     }
 
     pub fn listing(&self, folder: &Path, table: &[u8], script: &[u8]) -> Result<Vec<u8>, String> {
@@ -162,6 +175,7 @@ impl ModelProgram {
             listing: run(&self.0, &[], folder)?,
             set_up: String::from_utf8_lossy(&run(&self.0, &["--answer"], folder)?).trim().parse().ok(),
             end: run(&self.0, &["--save"], folder)?,
+            map: run(&self.0, &["--map"], folder)?,
         })
     }
 
