@@ -20,7 +20,7 @@ use Rattle.cells.specs.Cells.{cells}
 use Rattle.sleep.specs.Pairs.{absent, named, firstFrom, stateOf}
 use Rattle.clock.specs.AtOnce.{offWithin as overriddenIn, ranOf, counterAfter, holdAfter, afterOf}
 use Rattle.clock.specs.Clock.{counterBits}
-use Rattle.platform.specs.Blocks.{present, holds, noBlock}
+use Rattle.platform.specs.Blocks.{present, noBlock}
 use Rattle.platform.specs.Fitted.{statusCells, enableCells, wideTimer}
 use Rattle.platform.specs.FadtBlocks.{smiBlock, blockOf}
 use Rattle.platform.specs.declared.block.Block.{Block}
