@@ -1,4 +1,6 @@
 // What a bus access reaches, and which accesses are refused.
+#![tactic(auto)]
+
 mod reached;
 mod refusals;
 

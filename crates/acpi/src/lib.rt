@@ -1,5 +1,6 @@
 // The fixed hardware of ACPI 6.4 by the standard's names: register bits (chapter 4) and FADT flags by number, FADT fields (chapter 5) by byte
 // offset.
+#![tactic(auto)]
 
 // PM1 status, PM1a_STS and PM1b_STS
 pub const TMR_STS: u8 = 0; // the timer's top bit changed

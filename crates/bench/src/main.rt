@@ -1,4 +1,6 @@
 // The technicians' program: reads `platform.fadt` and a script on standard input, and prints the listing, or nothing.
+#![tactic(auto)]
+
 ghost use Rattle.std.specs.Prelude.{◌≡◌, ◌+◌, length};
 ghost use Rattle.io.specs.Counts.{IsPrefixLen};
 ghost use Rattle.session.specs.Session.{limit};

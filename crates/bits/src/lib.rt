@@ -1,4 +1,6 @@
 // The rules of a register's cells: write one to clear, take what is written; one of two, by a test; and a difference cut off at zero.
+#![tactic(auto)]
+
 ghost use Rattle.std.specs.Prelude.{cond, ◌≡◌, ◌-◌};
 ghost use Rattle.bits.specs.Writes.{cleared_by, taken_by, within};
 

@@ -194,7 +194,7 @@ fn event_written(s: Settings, x: Scalars, b: bool, width: u32, offset: u64, writ
 }
 
 // The bytes of a control register that a write covers: at offset 0 the first, or with two bytes both; at 1 the second; past it none.
-#[derive(Drop)]
+#[derive(Clone, Copy)]
 struct Bytes {
     width: u32,
     offset: u64,

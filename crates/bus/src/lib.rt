@@ -1,4 +1,6 @@
 // Bus accesses.
+#![tactic(auto)]
+
 mod cell_rules;
 
 ghost use Rattle.std.specs.Prelude.{◌≡◌, ◌%◌, ◌^◌};

@@ -1,4 +1,6 @@
 // The PM1 event cells: one constant table, and the masks computed from it.
+#![tactic(auto)]
+
 ghost use Rattle.std.specs.Prelude.{◌≡◌};
 ghost use Rattle.cells.specs.Cells.{flag_of, bit_at, is_fitted, has_enable, is_event, is_in, cell_bit, mask_of, cells};
 
@@ -8,7 +10,7 @@ use acpi::{
 };
 use bits::pick16;
 
-#[derive(Drop)]
+#[derive(Clone, Copy)]
 pub enum Status {
     Tmr,
     Bm,
@@ -20,14 +22,14 @@ pub enum Status {
     Wak,
 }
 
-#[derive(Drop)]
+#[derive(Clone, Copy)]
 pub enum Enable {
     No,
     Yes,
     Disable,
 }
 
-#[derive(Drop)]
+#[derive(Clone, Copy)]
 pub enum Fitted {
     Always,
     TimerPresent,
@@ -35,7 +37,7 @@ pub enum Fitted {
     FlagSet(u8),
 }
 
-#[derive(Drop)]
+#[derive(Clone, Copy)]
 pub struct Cell {
     pub bit: u8,
     pub status: Status,
@@ -95,7 +97,7 @@ const CELLS: [Cell; 8] = [
 ];
 
 // Whose bits a mask holds.
-#[derive(Drop)]
+#[derive(Clone, Copy)]
 pub enum Column {
     // the eight of the table, fitted or not: C731 hex
     Known,

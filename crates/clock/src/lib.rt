@@ -1,4 +1,6 @@
 // The PM timer's counter, the turns of its top bit and the power button's hold, n ticks at once.
+#![tactic(auto)]
+
 ghost use Rattle.std.specs.Prelude.{◌≡◌, ◌^◌, min};
 ghost use Rattle.clock.specs.Clock.{counter_bits, ticks_of, start_of};
 ghost use Rattle.clock.specs.AtOnce.{off_within, ran_of, counter_after, turns_in, hold_after};
@@ -7,7 +9,7 @@ ghost use Rattle.clock.specs.AtOnce.{off_within, ran_of, counter_after, turns_in
 pub const HOLD_LIMIT: u64 = 14318180;
 
 // The timer and the power button's hold as n ticks leave them.
-#[derive(Drop)]
+#[derive(Clone, Copy)]
 pub struct Clock {
     // PM_TMR, of 24 or 32 bits
     pub counter: u32,

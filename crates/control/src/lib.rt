@@ -1,4 +1,6 @@
 // What a write to a PM1 control register does.
+#![tactic(auto)]
+
 ghost use Rattle.std.specs.Prelude.{◌≡◌};
 ghost use Rattle.sleep.specs.Pairs.{state_of};
 ghost use Rattle.machine.specs.PowerOn.{no_settings};

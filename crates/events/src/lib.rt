@@ -1,4 +1,6 @@
 // Buttons, alarm, wake pin, bus master, global lock, general events and ticks.
+#![tactic(auto)]
+
 mod buttons;
 mod general;
 mod timer;
@@ -16,14 +18,14 @@ use model::{Effect, Event};
 use timer::ticks;
 
 // A PM1 status bit: its number, and the bit at its place in the register.
-#[derive(Drop)]
+#[derive(Clone, Copy)]
 struct StatusBit {
     number: u8,
     mask: u16,
 }
 
 // The events by kind: those of a kind go by one rule, each with its own bit, so that the rule has one caller.
-#[derive(Drop)]
+#[derive(Clone, Copy)]
 enum EventKind {
     Press,
     Release,

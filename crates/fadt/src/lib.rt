@@ -1,4 +1,6 @@
 // The FADT's bytes: rules 1 to 4 of setting up, and the settings read from them.
+#![tactic(auto)]
+
 ghost use Rattle.std.specs.Prelude.{◌≡◌, ◌+◌, ◌*◌, ◌%◌, take, if◌then◌else◌, slice_index};
 ghost use Rattle.platform.specs.Answer.{first_failing};
 ghost use Rattle.fadt.specs.Table.{

@@ -1,4 +1,6 @@
 // Firmware steps.
+#![tactic(auto)]
+
 ghost use Rattle.std.specs.Prelude.{◌≡◌};
 ghost use Rattle.machine.specs.PowerOn.{no_settings};
 ghost use Rattle.machine.specs.Scalars.{bare, scalars_of};

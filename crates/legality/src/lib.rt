@@ -1,10 +1,12 @@
 // Whether a machine passes the list of request W2, document 02, with the clauses of requests W3 and W7, and if not the first clause that it breaks.
+#![tactic(auto)]
+
 mod clauses;
 
 pub use clauses::judge;
 use platform::SetUpRefusal;
 
-#[derive(Drop)]
+#[derive(Clone, Copy)]
 pub enum Legality {
     Legal,
     // the first clause that is broken
@@ -12,7 +14,7 @@ pub enum Legality {
 }
 
 // The clauses in the list's order, which the comments quote; request W3's stands among them, and request W7's last.
-#[derive(Drop)]
+#[derive(Clone, Copy)]
 pub enum Clause {
     // "settings pass rules 5 to 12": the first that refuses
     Settings(SetUpRefusal),

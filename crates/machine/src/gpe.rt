@@ -10,7 +10,7 @@ use crate::status::has_bit8;
 pub const GPE_BYTES: usize = platform::GPE_LONGEST as usize / 2;
 
 // One of the machine's four arrays, or none.
-#[derive(Drop)]
+#[derive(Clone, Copy)]
 pub enum GpeArray {
     None,
     Gpe0Sts,
@@ -20,7 +20,7 @@ pub enum GpeArray {
 }
 
 // The byte that a step stores: in which array, at which place, and whether an enabled status bit is then looked for.
-#[derive(Drop)]
+#[derive(Clone, Copy)]
 pub struct GpeStore {
     pub place: u64,
     pub byte: u8,

@@ -1,4 +1,6 @@
 // The machine: all that a guest's power hardware holds, and setting it up.
+#![tactic(auto)]
+
 mod gpe;
 mod lines;
 mod scalars;
@@ -19,7 +21,7 @@ pub use sleeping::{NextState, StateChange, WakeSource, is_sleeping, wake_bits};
 pub use status::{BM, GBL, PCIEXP_WAKE, PWRBTN, RTC, SLPBTN, TMR, WAK, has_bit, has_bit8};
 
 // No padding stands between the fields: with it the compiler would copy them as bytes.
-#[derive(Drop)]
+#[derive(Clone, Copy)]
 pub struct Machine {
     pub settings: Settings,
     // SCI_EN, BM_RLD, and SLP_TYPx of PM1a_CNT
@@ -60,7 +62,7 @@ pub struct Machine {
     pub gpe1_en: [u8; GPE_BYTES],
 }
 
-#[derive(Drop)]
+#[derive(Clone, Copy)]
 pub struct SetUp {
     pub answer: SetUpAnswer,
     pub machine: Machine,

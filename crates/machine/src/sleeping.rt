@@ -13,7 +13,7 @@ use bits::{pick8, pick16};
 use platform::Settings;
 
 // What wakes a machine: a PM1 status bit by its number, a general event by its own, or not known which of several.
-#[derive(Drop)]
+#[derive(Clone, Copy)]
 pub enum WakeSource {
     Pm1(u8),
     Gpe(u32),
@@ -43,7 +43,7 @@ fn pending(settings: Settings, x: Scalars, state: u8) -> bool
 }
 
 // What becomes of the sleep state in a step.
-#[derive(Drop)]
+#[derive(Clone, Copy)]
 pub enum StateChange {
     // from S1 to S4
     Wake(WakeSource),
@@ -54,7 +54,7 @@ pub enum StateChange {
     Restart,
 }
 
-#[derive(Drop)]
+#[derive(Clone, Copy)]
 pub enum NextState {
     Same,
     Changed(StateChange),

@@ -1,4 +1,6 @@
 // The lines of the port map, written into a lent buffer. What would lie past the buffer's end is not stored.
+#![tactic(auto)]
+
 ghost use Rattle.std.specs.Prelude.{◌≡◌, ◌+◌, ◌%◌, ◌^◌, ◌<◌, [], ◌∷◌, ◌++◌, length, slice_index_or};
 ghost use Rattle.std.proofs.lemmas.List.Edits.{sets};
 ghost use Rattle.platform.specs.FadtBlocks.{block_count, fadt_order};

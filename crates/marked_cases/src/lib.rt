@@ -1,1 +1,2 @@
 // The marked cases of document 01 as one proved table. There is no code here.
+#![tactic(auto)]

@@ -1,4 +1,6 @@
 // The steps of the machine: what they are and what they answer. The definitions of what each does stand in specs/.
+#![tactic(auto)]
+
 ghost use Rattle.std.specs.Prelude.{◌≡◌};
 ghost use Rattle.model.specs.Answer.{step_number, step_value};
 ghost use Rattle.model.specs.Effect.{unmoved, done};
@@ -8,14 +10,14 @@ use machine::{GpeStore, Machine, NextState, Scalars};
 
 // A bus access: its width in bytes, and its first port. In this order the port is a word of its own within a step, and a copied
 // step is read back as it was written.
-#[derive(Drop)]
+#[derive(Clone, Copy)]
 pub struct Access {
     pub width: u32,
     pub port: u64,
 }
 
 // A bus access with its direction: a read, or a write of a value.
-#[derive(Drop)]
+#[derive(Clone, Copy)]
 pub struct Transfer {
     pub access: Access,
     pub writes: bool,
@@ -23,7 +25,7 @@ pub struct Transfer {
 }
 
 // What comes from outside the bus and the firmware, and may come between the halves of a split access.
-#[derive(Drop)]
+#[derive(Clone, Copy)]
 pub enum Event {
     // the power button goes down, or up
     Press,
@@ -43,7 +45,7 @@ pub enum Event {
     Ticks(u32),
 }
 
-#[derive(Drop)]
+#[derive(Clone, Copy)]
 pub enum Step {
     Read(Access),
     // the access, and the value written
@@ -56,7 +58,7 @@ pub enum Step {
 }
 
 // Accepted, with the value; or refused.
-#[derive(Drop)]
+#[derive(Clone, Copy)]
 pub enum Answer {
     Done(u32),
     Asleep,
@@ -73,7 +75,7 @@ pub enum Answer {
     NoCommand,
 }
 
-#[derive(Drop)]
+#[derive(Clone, Copy)]
 pub struct Stepped {
     pub answer: Answer,
     pub machine: Machine,
@@ -81,7 +83,7 @@ pub struct Stepped {
 
 // A step, worked out and not done yet: the answer, the machine's scalars by the step's own rule, the general event byte that it stores, and
 // what becomes of the sleep state.
-#[derive(Drop)]
+#[derive(Clone, Copy)]
 pub struct Effect {
     pub answer: Answer,
     pub scalars: Scalars,
@@ -90,7 +92,7 @@ pub struct Effect {
 }
 
 // The registers that a port may lead to; of two blocks, true is block B, or GPE1.
-#[derive(Drop)]
+#[derive(Clone, Copy)]
 pub enum Register {
     SmiCmd,
     Pm1Evt(bool),

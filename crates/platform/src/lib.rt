@@ -1,4 +1,6 @@
 // A platform's settings, as the FADT and the host give them, and rules 5 to 12 of setting up.
+#![tactic(auto)]
+
 mod block;
 mod rules;
 mod settings;

@@ -34,7 +34,7 @@ pub const BLOCKS: usize = 9;
 pub const GPE_LONGEST: u32 = 16;
 
 // The lines of the table of setting up, each of which refuses.
-#[derive(Drop)]
+#[derive(Clone, Copy)]
 pub enum SetUpRefusal {
     TableShort,
     NoSignature,
@@ -51,7 +51,7 @@ pub enum SetUpRefusal {
 }
 
 // The answers of setting up: success, or the first line that refuses.
-#[derive(Drop)]
+#[derive(Clone, Copy)]
 pub enum SetUpAnswer {
     Done,
     Refused(SetUpRefusal),

@@ -1,4 +1,6 @@
 // Prints the port map of the table `platform.fadt`, or nothing where setting up refuses it. Homes, override and sleep states, which move no port, are none.
+#![tactic(auto)]
+
 ghost use Rattle.io.specs.Counts.{IsPrefixLen};
 
 use libc::STDOUT_FILENO;

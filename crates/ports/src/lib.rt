@@ -1,4 +1,6 @@
 // The port map: where a port leads.
+#![tactic(auto)]
+
 ghost use Rattle.std.specs.Prelude.{◌≡◌, ◌-◌};
 ghost use Rattle.ports.specs.Walk.{walk};
 ghost use Rattle.ports.specs.declared.Place.TheVariants as place;
@@ -6,7 +8,7 @@ ghost use Rattle.ports.specs.declared.Place.TheVariants as place;
 use platform::{Block, FadtBlock, Settings, holds_port};
 
 // Where a port leads: into a block, at an offset, or nowhere.
-#[derive(Drop)]
+#[derive(Clone, Copy)]
 pub enum Place {
     In(FadtBlock, u64),
     Nowhere,

@@ -1,4 +1,6 @@
 // The records of the saved text: one table of them, and the loops that write and read their values. It knows no machine.
+#![tactic(auto)]
+
 mod bytes;
 mod parts;
 mod table;

@@ -1,5 +1,7 @@
 // The registers: where each bit lives, what a read shows, and what a write does.
 // Throughout, b is true for block B, or GPE1, and false for block A, or GPE0.
+#![tactic(auto)]
+
 ghost use Rattle.std.specs.Prelude.{◌≡◌, ◌-◌, ◌%◌, ◌^◌, cond, get_or};
 ghost use Rattle.std.specs.Int.Bits.{bit_and};
 ghost use Rattle.bits.specs.Writes.{kept, cleared_by, taken_by};

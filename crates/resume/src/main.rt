@@ -1,4 +1,6 @@
 // Reads a saved text, the file `state`, and steps on standard input, and prints the listing of these, or nothing.
+#![tactic(auto)]
+
 ghost use Rattle.std.specs.Prelude.{◌≡◌, ◌+◌, length};
 ghost use Rattle.io.specs.Counts.{IsPrefixLen};
 ghost use Rattle.session.specs.Session.{limit};

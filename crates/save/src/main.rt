@@ -1,5 +1,7 @@
 // Reads a script on standard input and prints the saved text of the machine at its end, or nothing. The machine is the one that `platform.fadt` and the
 // script's first line set up; or, where there is no such file, that of the saved text `state`, and all lines are steps.
+#![tactic(auto)]
+
 ghost use Rattle.std.specs.Prelude.{◌≡◌, ◌+◌, length};
 ghost use Rattle.io.specs.Counts.{IsPrefixLen};
 ghost use Rattle.session.specs.Session.{limit};

@@ -1,4 +1,6 @@
 // The saved text of a machine: written into a lent buffer, and read back.
+#![tactic(auto)]
+
 mod print;
 mod reading;
 
@@ -14,13 +16,13 @@ pub use reading::read;
 pub const NEWEST: u64 = 2;
 
 // The text is written, with its length; or it is longer than the buffer.
-#[derive(Drop)]
+#[derive(Clone, Copy)]
 pub enum WriteAnswer {
     Written(u64),
     NoRoom,
 }
 
-#[derive(Drop)]
+#[derive(Clone, Copy)]
 pub enum ReadAnswer {
     Done,
     NoEdition,
@@ -33,7 +35,7 @@ pub enum ReadAnswer {
 }
 
 // A refusal gives the machine all zero.
-#[derive(Drop)]
+#[derive(Clone, Copy)]
 pub struct ReadBack {
     pub answer: ReadAnswer,
     pub machine: Machine,

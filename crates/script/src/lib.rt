@@ -1,4 +1,6 @@
 // A script's lines: the platform line, and steps.
+#![tactic(auto)]
+
 mod hex_fields;
 mod platform_line;
 mod step_line;

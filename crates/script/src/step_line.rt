@@ -7,7 +7,7 @@ use model::{Access, Event, Step};
 use text::{field, field_count, field_is, hex_value, is_hex, same};
 
 // What a line says: a step, or nothing that reads.
-#[derive(Drop)]
+#[derive(Clone, Copy)]
 pub enum Line {
     Step(Step),
     Unread,

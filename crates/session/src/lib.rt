@@ -1,4 +1,6 @@
 // A session: a script run on a table's machine, or steps on a given one, and its listing or the machine at its end.
+#![tactic(auto)]
+
 ghost use Rattle.std.specs.Prelude.{◌≡◌, ◌+◌, ◌/◌, ◌≤◌, leb, length, drop};
 ghost use Rattle.std.proofs.lemmas.List.Edits.{sets};
 ghost use Rattle.text.specs.Numbers.{digit_count};
@@ -15,7 +17,7 @@ use platform::{SetUpAnswer, SetUpRefusal};
 use script::{Line, control_homes, event_homes, line_of, pairs, platform_reads, power_override};
 use text::{decimal_digits, line_count, line_from, next_line};
 
-#[derive(Drop)]
+#[derive(Clone, Copy)]
 pub enum SessionAnswer {
     // the listing's length
     Written(usize),
@@ -28,7 +30,7 @@ pub enum SessionAnswer {
     NoRoom,
 }
 
-#[derive(Drop)]
+#[derive(Clone, Copy)]
 pub enum EndAnswer {
     // all steps are done
     Done,
@@ -41,7 +43,7 @@ pub enum EndAnswer {
 }
 
 // The machine at the end; all zero where there is none.
-#[derive(Drop)]
+#[derive(Clone, Copy)]
 pub struct Ended {
     pub answer: EndAnswer,
     pub machine: Machine,

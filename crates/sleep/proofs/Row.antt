@@ -10,7 +10,7 @@ use mir.Val.{Val}
 use types.Logic.{Logic}
 use denote.RattleType.{RattleType}
 use denote.Laws.{Is, Tells, Typed, Makes}
-use denote.Plain.{uint_vals, uint_tells, uint_lawful, uint_makes}
+use denote.Plain.{uint_vals, uint_Tells, uint_lawful, uint_makes}
 use denote.Builtin.{u8}
 use denote.Array.{Array, array_vals, Array-Tells, Array-Typed, Array-Makes}
 
@@ -24,7 +24,7 @@ abbrev pub six-vals : List (List ℕ) → List Val
 six-vals = array_vals (array_vals (uint_vals w8))
 
 pub six-tells : Tells Six (Is Six) six-vals
-six-tells = Array-Tells Pair (array_vals (uint_vals w8)) (Array-Tells u8 (uint_vals w8) (uint_tells w8) 2) 6
+six-tells = Array-Tells Pair (array_vals (uint_vals w8)) (Array-Tells u8 (uint_vals w8) (uint_Tells w8) 2) 6
 
 -- a field's value as the row has it is the value itself
 pub field_is : (xs : List (List ℕ)) → map (map (λ (v : ℕ). v)) xs ≡ xs

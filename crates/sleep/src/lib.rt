@@ -1,10 +1,12 @@
 // The pairs of sleep type values of S0 to S5: rule 12, and the state that a pair names.
+#![tactic(auto)]
+
 ghost use Rattle.std.specs.Prelude.{◌≡◌, drop};
 ghost use Rattle.lists.specs.Any.{any, any_two};
 ghost use Rattle.sleep.specs.Pairs.{sleep_table, absent, out_of_range, same_pair, shared, sleep_refused, named, state_of};
 
 // "for each of S0 to S5, absent or a pair (a, b)": a pair is [a, b], absent is both 255.
-#[derive(Drop)]
+#[derive(Clone, Copy)]
 pub struct SleepTable {
     pub pairs: [[u8; 2]; 6],
 }

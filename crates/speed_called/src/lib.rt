@@ -1,4 +1,6 @@
 // The rows of steps once more, from two loops: with two callers a step is a function of its own, as a host has it, and not put into a loop.
+#![tactic(auto)]
+
 ghost use Rattle.std.specs.Prelude.{◌≡◌};
 ghost use Rattle.speed_general.specs.GeneralRound.{general_run};
 ghost use Rattle.speed_steps.specs.Rows.{steps_run};

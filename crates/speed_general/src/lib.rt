@@ -1,5 +1,7 @@
 // More work that benches/ measures: the general event round, and the lines alone. They are no rows of speed_steps: all accesses there are of two bytes, and the
 // compiler fits the step to that.
+#![tactic(auto)]
+
 ghost use Rattle.std.specs.Prelude.{◌≡◌};
 ghost use Rattle.speed_general.specs.GeneralRound.{ports_of, read_at, write_at, general_at, next_place, lines_if, general_steps, general_run};
 ghost use Rattle.speed_general.specs.LinesAlone.{all_enabled, status_from, lines_turn, lines_turns, lines_run};
@@ -10,7 +12,7 @@ use speed_runs::{Run, done, lines, prepared, set_up, sum};
 use std::num::wrapping_add_u64;
 
 // The ports of GPE0's first status and enable byte.
-#[derive(Drop)]
+#[derive(Clone, Copy)]
 pub struct Ports {
     pub gpe_sts: u64,
     pub gpe_en: u64,

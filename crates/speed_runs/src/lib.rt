@@ -1,4 +1,6 @@
 // What the measured loops share: the worked session's machine, a step with what it adds to the sum, and the lines.
+#![tactic(auto)]
+
 ghost use Rattle.std.specs.Prelude.{◌≡◌};
 ghost use Rattle.speed_runs.specs.Runs.{set_up_here, prepared_of, run_step, lines_added, sum_of};
 
@@ -12,7 +14,7 @@ const EVENT_HOMES: u16 = 0x0400;
 const PAIRS: [[u8; 2]; 6] = [[0, 0], [255, 255], [255, 255], [5, 2], [255, 255], [7, 0]];
 
 // A machine, the values of its last step and of the one before, and the sum of all numbers and values.
-#[derive(Drop)]
+#[derive(Clone, Copy)]
 pub struct Run {
     pub machine: Machine,
     pub value: u32,

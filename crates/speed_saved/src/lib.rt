@@ -1,4 +1,6 @@
 // The saved texts that benches/ measures: one read, and one written, n times, each with one number that depends on all of it.
+#![tactic(auto)]
+
 ghost use Rattle.std.specs.Prelude.{◌≡◌, length};
 ghost use Rattle.saved.specs.Text.{written_buffer};
 ghost use Rattle.saved.specs.Reading.{read_of};

@@ -1,5 +1,7 @@
 // The session that benches/ measures, n times, and one number that depends on all of them. A crate of its own, so that in the
 // archive of `speed_steps` a step has one caller.
+#![tactic(auto)]
+
 ghost use Rattle.std.specs.Prelude.{◌≡◌, length};
 ghost use Rattle.session.specs.Session.{buffer_after};
 ghost use Rattle.speed_session.specs.Sessions.{session_turn, sum_after, buffers_after};

@@ -1,4 +1,6 @@
 // The work that benches/ measures: steps of a row one after the other, and setting up, n times, each with one number that depends on all of it.
+#![tactic(auto)]
+
 ghost use Rattle.std.specs.Prelude.{◌≡◌};
 ghost use Rattle.speed_steps.specs.Rows.{
   ports_of,
@@ -22,7 +24,7 @@ use speed_runs::{Run, done, lines, prepared, set_up, sum};
 use std::num::wrapping_add_u64;
 
 // The ports of PM1 status and control in blocks A and B.
-#[derive(Drop)]
+#[derive(Clone, Copy)]
 pub struct Ports {
     pub sts_a: u64,
     pub sts_b: u64,
@@ -30,7 +32,7 @@ pub struct Ports {
     pub cnt_b: u64,
 }
 
-#[derive(Drop)]
+#[derive(Clone, Copy)]
 pub enum Row {
     StatusRead,
     WriteBack,

@@ -1,4 +1,6 @@
 // One step of the machine.
+#![tactic(auto)]
+
 ghost use Rattle.std.specs.Prelude.{◌≡◌};
 ghost use Rattle.model.specs.Effect.{effect_of};
 ghost use Rattle.model.specs.Step.{step_of};
@@ -8,7 +10,7 @@ use machine::Machine;
 use model::{Access, Effect, Event, Step, Stepped, Transfer};
 
 // A step by who does it. Reads and writes are one kind, so that the bus has one caller.
-#[derive(Drop)]
+#[derive(Clone, Copy)]
 enum StepKind {
     Bus(Transfer),
     Event(Event),

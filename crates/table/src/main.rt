@@ -1,5 +1,7 @@
 // Prints what the table `platform.fadt` says, by the FADT's own names: a line each, name and value parted by a tab; ports and events are hex, as a script
 // writes them. The last line is a platform line to start from, which asks nothing of the table.
+#![tactic(auto)]
+
 ghost use Rattle.io.specs.Counts.{IsPrefixLen};
 
 use libc::STDOUT_FILENO;

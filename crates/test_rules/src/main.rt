@@ -1,4 +1,6 @@
 // The rules below the steps, shown: for each case its name and the number that comes of it, in hex, on each side of a limit.
+#![tactic(auto)]
+
 use cells::Column;
 use libc::STDOUT_FILENO;
 use platform::{Block, Settings};

@@ -1,5 +1,7 @@
 // The limits of the saved text, shown: a buffer exactly as long, one short and one longer; and each of 40 to 42 before the next. The text is standard
 // input's; for each case its name, the number and the value.
+#![tactic(auto)]
+
 ghost use Rattle.std.specs.Prelude.{◌≡◌, length};
 ghost use Rattle.io.specs.Counts.{IsPrefixLen};
 

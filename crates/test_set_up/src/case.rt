@@ -6,7 +6,7 @@ use test_tables::{COMMON, NO_STATE, ROOM, SESSION, SESSION_STATES, filled, pairs
 use text::{part, part_count, same};
 
 // What is given to setting up, and what the bytes of the table sum to.
-#[derive(Drop)]
+#[derive(Clone, Copy)]
 pub struct Case {
     pub table: [u8; ROOM],
     pub lent: u32,

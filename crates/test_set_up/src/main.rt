@@ -1,6 +1,8 @@
 // Setting up, case by case: each line is a case's name and the number that setting up answers. The cases are read on
 // standard input: the worked session's table with a few fields edited, another number of bytes lent, or other homes and
 // sleep states. The last few are a table that QEMU makes.
+#![tactic(auto)]
+
 mod case;
 mod fields;
 mod numbers;

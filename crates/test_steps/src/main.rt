@@ -1,6 +1,8 @@
 // The steps, case by case: each line is a step of a script, what it answers, and the lines and the state after it. The
 // cases are read on standard input. A case starts at power-on of one of four platforms; a line that begins with # says
 // what the steps below it show.
+#![tactic(auto)]
+
 mod case;
 mod platforms;
 

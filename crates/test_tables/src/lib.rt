@@ -1,4 +1,6 @@
 // What tests set machines up with: a FADT's fields under ACPI's names, a table made from a list of them, sleep states.
+#![tactic(auto)]
+
 mod fields;
 mod states;
 mod tables;

@@ -1,4 +1,6 @@
 // Texts, as bytes: numbers read and written, fields and lines found, bytes written into a lent buffer.
+#![tactic(auto)]
+
 mod fields;
 mod numbers;
 mod parts;

@@ -1,4 +1,6 @@
 // The machine as the values of the saved text's number records, in their order, and back. It knows no text.
+#![tactic(auto)]
+
 mod from;
 mod of;
 mod stray;

@@ -1,6 +1,8 @@
 // Says in one line what a session's table and script come to: what is wrong and where, or how many steps there are. Where there is no table but a saved
 // text, the file `state`: what that and the steps come to. Which line does not read, and which line of setting up refuses, the proved libraries say; what is
 // said beside it comes from a closer look.
+#![tactic(auto)]
+
 mod blocks;
 mod clauses;
 mod line;
