@@ -8,5 +8,5 @@ returns : tie.Need-returns
 unfolding within
 returns c = search rules
 
-pub within16-spec : {M : Type 1} → statement M
-within16-spec = tie.close (tie.spec returns)
+pub within16_spec : {M : Type 1} → statement M
+within16_spec = tie.close (tie.spec returns)

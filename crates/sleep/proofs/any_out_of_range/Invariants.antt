@@ -1,13 +1,9 @@
 -- `sleep::any_out_of_range` meets its contract. The loop's invariant: the search of what is left gives what the whole search gives.
 -- Assumes nothing.
-use mathlib.Core.Path.{◌≡◌, refl}
-use mathlib.Core.List.{[]}
-use Prim.Native.Nat.{◌≤◌, ◌<◌, ◌-◌}
-use borrow.Author.Rules.{rules}
-use native.Mathlib.Omega.{arith}
-use lib.ListN.{length, drop}
+use mathlib.Core.Path.{◌≡◌}
+use Prim.Native.Nat.{◌-◌}
+use lib.ListN.{drop}
 use Rattle.lists.specs.Any.{any}
-use Rattle.lists.proofs.Search.{any-turn, any-end}
 use Rattle.sleep.specs.Pairs.{out_of_range}
 use Rattle.sleep.proofs.any_out_of_range.Given as goal
 

@@ -1,13 +1,9 @@
 -- `sleep::any_shared` meets its contract. The loop's invariant: the search of what is left gives what the whole search gives.
 -- Assumes nothing.
-use mathlib.Core.Path.{◌≡◌, refl}
-use mathlib.Core.List.{[]}
-use Prim.Native.Nat.{◌≤◌, ◌<◌, ◌-◌}
-use borrow.Author.Rules.{rules}
-use native.Mathlib.Omega.{arith}
-use lib.ListN.{length, drop}
+use mathlib.Core.Path.{◌≡◌}
+use Prim.Native.Nat.{◌-◌}
+use lib.ListN.{drop}
 use Rattle.lists.specs.Any.{any_two}
-use Rattle.lists.proofs.Search.{any-two-turn, any-two-end}
 use Rattle.sleep.specs.Pairs.{shared}
 use Rattle.sleep.proofs.any_shared.Given as goal
 

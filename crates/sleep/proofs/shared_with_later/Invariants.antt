@@ -1,13 +1,9 @@
 -- `sleep::shared_with_later` meets its contract. The loop's invariant: the search of what is left gives what the search from `from` on gives.
 -- Assumes nothing.
-use mathlib.Core.Path.{◌≡◌, refl}
-use mathlib.Core.List.{[]}
-use Prim.Native.Nat.{◌≤◌, ◌<◌, ◌-◌}
-use borrow.Author.Rules.{rules}
-use native.Mathlib.Omega.{arith}
-use lib.ListN.{length, drop}
+use mathlib.Core.Path.{◌≡◌}
+use Prim.Native.Nat.{◌-◌}
+use lib.ListN.{drop}
 use Rattle.lists.specs.Any.{any}
-use Rattle.lists.proofs.Search.{any-turn, any-end}
 use Rattle.sleep.specs.Pairs.{shared}
 use Rattle.sleep.proofs.shared_with_later.Given as goal
 

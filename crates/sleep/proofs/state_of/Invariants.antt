@@ -1,13 +1,10 @@
 -- `sleep::state_of` meets its contract. The loop's invariant: the search of what is left gives what the whole search gives.
 -- Assumes nothing.
-use mathlib.Core.Path.{◌≡◌, refl}
+use mathlib.Core.Path.{◌≡◌}
 use mathlib.Core.List.{[], ◌∷◌}
-use Prim.Native.Nat.{◌≤◌, ◌<◌, ◌-◌}
-use borrow.Author.Rules.{rules}
-use native.Mathlib.Omega.{arith}
-use lib.ListN.{length, drop}
+use Prim.Native.Nat.{◌-◌}
+use lib.ListN.{drop}
 use Rattle.sleep.specs.Pairs.{first_from, named}
-use Rattle.sleep.proofs.First.{first-turn, first-end}
 use Rattle.sleep.proofs.state_of.Given as goal
 
 abbrev pub invariant-loop-i : goal.invariant-loop-i
