@@ -8,7 +8,7 @@ use Prim.Native.Nat.{ℕ, ◌+◌, ◌-◌, ◌%◌, ◌≤◌, ◌<◌}
 use native.Mathlib.Omega.{arith}
 use borrow.Author.Tests.{ltb-true, ltb-false, leb-true, eqb-true, eqb-false, lt-ltb, le-leb, ne_eqb, not-true, not-false}
 use lib.Dec.{eqb, ltb, leb, lit<}
-use lib.ListN.{length, get_or}
+use lib.ListN.{get_or}
 use Rattle.lists.specs.Any.{any}
 use Rattle.lists.proofs.Search.{any_none, any-two-none, any-of-none}
 use Rattle.lists.proofs.Tests.{or_left, or_right, and_left, and_right, and-other}
