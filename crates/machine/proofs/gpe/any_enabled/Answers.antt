@@ -1,0 +1,20 @@
+use mathlib.Core.Path.{◌≡◌, refl, sym, ◌∙◌}
+use mathlib.Core.Bool.{◌||◌, or-false}
+use Prim.Native.Nat.{◌≤◌, ◌<◌, ◌-◌}
+use borrow.Author.Rules.{rules}
+use native.Mathlib.Omega.{arith}
+use lib.ListN.{length, drop}
+use Rattle.machine.specs.Lines.{any_enabled}
+use Rattle.machine.proofs.AnyEnabled.{any-found-turn, any-enabled-end}
+use Rattle.machine.proofs.gpe.any_enabled.Goals as goal
+
+pub loop-i-preserved : goal.loop-i-preserved
+loop-i-preserved c =
+    let h : c.loop-i.i < length c.args.sts = omega arith in
+    let k : c.loop-i.i < length c.args.en = omega arith in
+    rw c.has_bit8-found.ensures (sym (any-found-turn c.args.sts c.args.en c.loop-i.i c.loop-i.found h k) ∙ c.loop-i.invariant)
+
+pub returns : goal.returns
+returns c =
+    let h : length c.args.sts ≤ c.loop-i.i = omega arith in
+    rw (any-enabled-end c.args.sts c.args.en c.loop-i.i h, or-false) c c.loop-i.invariant

@@ -1,0 +1,17 @@
+-- `machine::gpe::any_enabled` meets its contract. The loop's invariant: what was found, or what the walk over the bytes that are left finds, is what
+-- the whole walk finds. Assumes nothing.
+use mathlib.Core.Path.{◌≡◌, refl, sym, ◌∙◌}
+use mathlib.Core.Bool.{◌||◌, or-false}
+use Prim.Native.Nat.{◌≤◌, ◌<◌, ◌-◌}
+use borrow.Author.Rules.{rules}
+use native.Mathlib.Omega.{arith}
+use lib.ListN.{length, drop}
+use Rattle.machine.specs.Lines.{any_enabled}
+use Rattle.machine.proofs.AnyEnabled.{any-found-turn, any-enabled-end}
+use Rattle.machine.proofs.gpe.any_enabled.Given as goal
+
+abbrev pub invariant-loop-i : goal.invariant-loop-i
+invariant-loop-i l = (l.found || any_enabled (drop l.i l.sts) (drop l.i l.en)) ≡ any_enabled l.sts l.en
+
+abbrev pub decreases-loop-i : goal.decreases-loop-i
+decreases-loop-i l = length l.sts - l.i

@@ -1,0 +1,7 @@
+use Rattle.machine.specs.Lines.{awake, sci_of}
+use borrow.Author.Rules.{rules}
+use Rattle.machine.proofs.lines.sci.Goals as goal
+
+pub returns : goal.returns
+unfolding awake sci_of
+returns c = simp (c.event_output.ensures, c.awake.ensures)

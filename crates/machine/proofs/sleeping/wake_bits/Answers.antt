@@ -1,0 +1,7 @@
+use Rattle.machine.specs.Sleep.{wake_bits}
+use borrow.Author.Rules.{rules}
+use Rattle.machine.proofs.sleeping.wake_bits.Goals as goal
+
+pub returns : goal.returns
+unfolding wake_bits
+returns c = simp (c.pick16.ensures, c.flag.ensures)
