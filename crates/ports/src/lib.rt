@@ -22,6 +22,7 @@ fn inside(name: FadtBlock, b: Block, port: u64) -> Place
 }
 
 // One walk over the blocks in the order of their FADT address fields, SMI_CMD first: the first that is present and holds the port.
+#[tactic(auto, unfolding(crate::specs::Walk::walk_over))]
 pub fn walk(s: Settings, port: u64) -> Place
     ensures { result ≡ walk s port }
 {
