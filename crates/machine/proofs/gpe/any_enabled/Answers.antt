@@ -17,4 +17,4 @@ loop-i-preserved c =
 pub returns : goal.returns
 returns c =
     let h : length c.args.sts ≤ c.loop-i.i = omega arith in
-    rw (any-enabled-end c.args.sts c.args.en c.loop-i.i h, or-false) c c.loop-i.invariant
+    rw (any-enabled-end c.args.sts c.args.en c.loop-i.i h, or-false) at c.loop-i.invariant
