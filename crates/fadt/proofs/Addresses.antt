@@ -5,14 +5,14 @@ use Rattle.platform.specs.declared.block.FadtBlock.{FadtBlock}
 use Rattle.platform.specs.declared.block.FadtBlock.TheVariants as fadt
 use Rattle.fadt.specs.Fields.{dword, settings_of}
 
-pub address_read : (t : List ℕ) (event-homes control-homes : ℕ) (power-override : Bool) (pairs : List (List ℕ)) (b : FadtBlock)
-    → (block_of (settings_of t event-homes control-homes power-override pairs) b).address ≡ dword t (address_field b)
-address_read t event-homes control-homes power-override pairs fadt.SmiCmd = refl
-address_read t event-homes control-homes power-override pairs fadt.Pm1aEvtBlk = refl
-address_read t event-homes control-homes power-override pairs fadt.Pm1bEvtBlk = refl
-address_read t event-homes control-homes power-override pairs fadt.Pm1aCntBlk = refl
-address_read t event-homes control-homes power-override pairs fadt.Pm1bCntBlk = refl
-address_read t event-homes control-homes power-override pairs fadt.Pm2CntBlk = refl
-address_read t event-homes control-homes power-override pairs fadt.PmTmrBlk = refl
-address_read t event-homes control-homes power-override pairs fadt.Gpe0Blk = refl
-address_read t event-homes control-homes power-override pairs fadt.Gpe1Blk = refl
+pub address_read : (t : List ℕ) (event_homes control_homes : ℕ) (power-override : Bool) (pairs : List (List ℕ)) (b : FadtBlock)
+    → (block_of (settings_of t event_homes control_homes power-override pairs) b).address ≡ dword t (address_field b)
+address_read t event_homes control_homes power-override pairs fadt.SmiCmd = refl
+address_read t event_homes control_homes power-override pairs fadt.Pm1aEvtBlk = refl
+address_read t event_homes control_homes power-override pairs fadt.Pm1bEvtBlk = refl
+address_read t event_homes control_homes power-override pairs fadt.Pm1aCntBlk = refl
+address_read t event_homes control_homes power-override pairs fadt.Pm1bCntBlk = refl
+address_read t event_homes control_homes power-override pairs fadt.Pm2CntBlk = refl
+address_read t event_homes control_homes power-override pairs fadt.PmTmrBlk = refl
+address_read t event_homes control_homes power-override pairs fadt.Gpe0Blk = refl
+address_read t event_homes control_homes power-override pairs fadt.Gpe1Blk = refl

@@ -24,7 +24,7 @@ pm1_block t address length = block (dword t address) (cond (not (dword t address
 
 -- "Given: FADT bytes; event homes and control homes ..; whether the power override is fitted; for each of S0 to S5, absent or a pair (a, b)"
 abbrev pub settings_of : List ℕ → ℕ → ℕ → Bool → List (List ℕ) → Settings
-settings_of t event-homes control-homes power-override pairs =
+settings_of t event_homes control_homes power-override pairs =
     record {
       smi_cmd = dword t SMI_CMD;
       acpi_enable = byte t ACPI_ENABLE;
@@ -39,8 +39,8 @@ settings_of t event-homes control-homes power-override pairs =
       gpe1 = block_from t GPE1_BLK GPE1_BLK_LEN;
       gpe1_base = byte t GPE1_BASE;
       flags = dword t «FLAGS»;
-      event_homes = event-homes;
-      control_homes = control-homes;
+      event_homes = event_homes;
+      control_homes = control_homes;
       power_override = power-override;
       sleep = sleep_table pairs;
     }

@@ -35,15 +35,15 @@ pm1-none : (t : List ℕ) (address length : ℕ) → HasNone (pm1_block t addres
 unfolding present
 pm1-none t address length h = rw h refl
 
-module _ (t : List ℕ) (event-homes control-homes : ℕ) (power-override : Bool) (pairs : List (List ℕ)) where
+module _ (t : List ℕ) (event_homes control_homes : ℕ) (power-override : Bool) (pairs : List (List ℕ)) where
   -- what setting up accepts passes the test of legal settings, and so is as `Guaranteed` says
-  pub accepted-legal : (set_up_of t event-homes control-homes power-override pairs).answer ≡ answer.Done
-      → legal_settings (set_up_of t event-homes control-homes power-override pairs).machine.settings ≡ true
+  pub accepted-legal : (set_up_of t event_homes control_homes power-override pairs).answer ≡ answer.Done
+      → legal_settings (set_up_of t event_homes control_homes power-override pairs).machine.settings ≡ true
   accepted-legal e =
-      let s = settings_of t event-homes control-homes power-override pairs in
+      let s = settings_of t event_homes control_homes power-override pairs in
       rw (accepted-machine t s e)
       (settings-legal s (any-drop (λ r. r.refused) (set_up_rules t s) 4 (accepted-passes t s e)) (pm1-none t 60 88) (pm1-none t 68 89))
 
-  pub accepted-guaranteed : (set_up_of t event-homes control-homes power-override pairs).answer ≡ answer.Done
-      → Guaranteed (set_up_of t event-homes control-homes power-override pairs).machine.settings
+  pub accepted-guaranteed : (set_up_of t event_homes control_homes power-override pairs).answer ≡ answer.Done
+      → Guaranteed (set_up_of t event_homes control_homes power-override pairs).machine.settings
   accepted-guaranteed e = legal-guaranteed _ (accepted-legal e)

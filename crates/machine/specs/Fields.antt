@@ -32,15 +32,15 @@ mode m = (m.armed, m.state)
 
 -- the last is the wake pin
 abbrev pub made : Settings → ℕ × ℕ → List ℕ × List ℕ × List ℕ × List ℕ × Bool → ℕ × ℕ × Bool → Bool × ℕ → Bool × Bool × Bool × ℕ × ℕ × Bool → Bool × ℕ → Bool → Machine
-made s (pm1-sts, pm1-en) (gpe0-sts, gpe0-en, gpe1-sts, gpe1-en, gpe-pending) (counter, hold, button) (command-waits, command) (sci-en, bm-rld, gbl-rls, slp-typ-a, slp-typ-b, arb-dis) (armed, state) wake-pin =
+made s (pm1-sts, pm1-en) (gpe0_sts, gpe0_en, gpe1_sts, gpe1_en, gpe-pending) (counter, hold, button) (command-waits, command) (sci-en, bm-rld, gbl-rls, slp-typ-a, slp-typ-b, arb-dis) (armed, state) wake-pin =
     record {
       settings = s;
       pm1_sts = pm1-sts;
       pm1_en = pm1-en;
-      gpe0_sts = gpe0-sts;
-      gpe0_en = gpe0-en;
-      gpe1_sts = gpe1-sts;
-      gpe1_en = gpe1-en;
+      gpe0_sts = gpe0_sts;
+      gpe0_en = gpe0_en;
+      gpe1_sts = gpe1_sts;
+      gpe1_en = gpe1_en;
       counter = counter;
       hold = hold;
       button = button;
@@ -69,8 +69,8 @@ with_event m pm1-sts pm1-en = made m.settings (pm1-sts, pm1-en) (gpe_cells m) (t
 
 -- the general event cells, and whether one is pending
 abbrev pub with_gpe : Machine → List ℕ → List ℕ → List ℕ → List ℕ → Bool → Machine
-with_gpe m gpe0-sts gpe0-en gpe1-sts gpe1-en gpe-pending =
-    made m.settings (pm1_cells m) (gpe0-sts, gpe0-en, gpe1-sts, gpe1-en, gpe-pending) (time_and_button m) (command_latch m) (control_cells m) (mode m) m.wake_pin
+with_gpe m gpe0_sts gpe0_en gpe1_sts gpe1_en gpe-pending =
+    made m.settings (pm1_cells m) (gpe0_sts, gpe0_en, gpe1_sts, gpe1_en, gpe-pending) (time_and_button m) (command_latch m) (control_cells m) (mode m) m.wake_pin
 
 -- whether one is pending
 abbrev pub with_gpe_pending : Machine → Bool → Machine

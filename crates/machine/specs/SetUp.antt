@@ -23,4 +23,4 @@ set_up_from t s =
 
 -- setting up, whole: the settings are those that the bytes and the host give
 abbrev pub set_up_of : List ℕ → ℕ → ℕ → Bool → List (List ℕ) → SetUp
-set_up_of t event-homes control-homes power-override pairs = set_up_from t (settings_of t event-homes control-homes power-override pairs)
+set_up_of t event_homes control_homes power-override pairs = set_up_from t (settings_of t event_homes control_homes power-override pairs)

@@ -71,21 +71,21 @@ module _ (named : List ℕ) (b : Block) where
 module _ (s : Settings) (g : Guaranteed s) where
   has-a-port : (b : FadtBlock) → present (block_of s b) ≡ true → 0 < (block_of s b).length
   has-a-port fadt.SmiCmd p = omega arith
-  has-a-port fadt.Pm1aEvtBlk p = omega (arith, g.evt-a-length p)
-  has-a-port fadt.Pm1bEvtBlk p = omega (arith, g.evt-b-length p)
-  has-a-port fadt.Pm1aCntBlk p = omega (arith, g.cnt-a-length p)
-  has-a-port fadt.Pm1bCntBlk p = omega (arith, g.cnt-b-length p)
-  has-a-port fadt.Pm2CntBlk p = omega (arith, g.pm2-length p)
-  has-a-port fadt.PmTmrBlk p = omega (arith, g.tmr-length p)
-  has-a-port fadt.Gpe0Blk p = omega (arith, (g.gpe0-length p).1)
-  has-a-port fadt.Gpe1Blk p = omega (arith, (g.gpe1-length p).1)
+  has-a-port fadt.Pm1aEvtBlk p = omega (arith, g.evt_a_length p)
+  has-a-port fadt.Pm1bEvtBlk p = omega (arith, g.evt_b_length p)
+  has-a-port fadt.Pm1aCntBlk p = omega (arith, g.cnt_a_length p)
+  has-a-port fadt.Pm1bCntBlk p = omega (arith, g.cnt_b_length p)
+  has-a-port fadt.Pm2CntBlk p = omega (arith, g.pm2_length p)
+  has-a-port fadt.PmTmrBlk p = omega (arith, g.tmr_length p)
+  has-a-port fadt.Gpe0Blk p = omega (arith, (g.gpe0_length p).1)
+  has-a-port fadt.Gpe1Blk p = omega (arith, (g.gpe1_length p).1)
 
   module _ (b : FadtBlock) (p : present (block_of s b) ≡ true) where
     first-is : number_in b 1 (printed s b) ≡ (block_of s b).address
-    first-is = first_said (ascii (fadt_name b)) (block_of s b) (omega (arith, g.within-ports b))
+    first-is = first_said (ascii (fadt_name b)) (block_of s b) (omega (arith, g.within_ports b))
 
     last-is : number_in b 18 (printed s b) ≡ last_port (block_of s b)
-    last-is = last-said (ascii (fadt_name b)) (block_of s b) (omega (arith, g.within-ports b, has-a-port b p))
+    last-is = last-said (ascii (fadt_name b)) (block_of s b) (omega (arith, g.within_ports b, has-a-port b p))
 
   line-leads : (b : FadtBlock) (port : ℕ) → InLine s b port → walk s port ≡ place.In b (port - (block_of s b).address)
   line-leads b port (p, low, high) =

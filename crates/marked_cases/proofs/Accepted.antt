@@ -56,9 +56,9 @@ module _ (wide : Bool) where
   unfolding gpe_refused present
   gpe-numbers-right = refl
 
-  commands-differ : commands_refused (platform wide) ≡ false
+  commands_differ : commands_refused (platform wide) ≡ false
   unfolding commands_refused
-  commands-differ = refl
+  commands_differ = refl
 
   homes-allowed : homes_refused (platform wide) ≡ false
   unfolding homes_refused homes_without_block within present
@@ -91,7 +91,7 @@ passes wide =
       places-allowed wide,
       blocks-apart wide,
       gpe-numbers-right wide,
-      commands-differ wide,
+      commands_differ wide,
       homes-allowed wide,
       pairs-allowed wide,
     )

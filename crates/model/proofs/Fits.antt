@@ -17,13 +17,13 @@ use Rattle.fadt.specs.Table.{set_up_rules}
 use Rattle.machine.specs.SetUp.{machine_for, set_up_of}
 use Rattle.model.specs.Legal.{not_two, settings_fit, fits_types}
 
-module _ (t : List ℕ) (event-homes control-homes : ℕ) (power-override : Bool) (pairs : List (List ℕ))
+module _ (t : List ℕ) (event_homes control_homes : ℕ) (power-override : Bool) (pairs : List (List ℕ))
     (bytes : (i : ℕ) → byte t i < 2 ^ 8) (six : length pairs ≡ 6) (two : any not_two pairs ≡ false) where
   dword-small : (i : ℕ) → dword t i < 2 ^ 32
   unfolding dword
   dword-small i = omega (arith, bytes i, bytes (i + 1), bytes (i + 2), bytes (i + 3))
 
-  settings-fit : settings_fit (settings_of t event-homes control-homes power-override pairs) ≡ true
+  settings-fit : settings_fit (settings_of t event_homes control_homes power-override pairs) ≡ true
   unfolding settings_fit
   settings-fit =
       rw (
@@ -37,10 +37,10 @@ module _ (t : List ℕ) (event-homes control-homes : ℕ) (power-override : Bool
       refl
 
   -- accepted or refused
-  pub set-up-fits : fits_types (set_up_of t event-homes control-homes power-override pairs).machine ≡ true
+  pub set-up-fits : fits_types (set_up_of t event_homes control_homes power-override pairs).machine ≡ true
   unfolding settings_fit not_two any
-  set-up-fits = go (first_failing (set_up_rules t (settings_of t event-homes control-homes power-override pairs)))
+  set-up-fits = go (first_failing (set_up_rules t (settings_of t event_homes control_homes power-override pairs)))
     where
-      go : (a : SetUpAnswer) → fits_types (machine_for a (settings_of t event-homes control-homes power-override pairs)) ≡ true
+      go : (a : SetUpAnswer) → fits_types (machine_for a (settings_of t event_homes control_homes power-override pairs)) ≡ true
       go answer.Done = settings-fit
       go (answer.Refused r) = refl

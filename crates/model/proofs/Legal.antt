@@ -255,10 +255,10 @@ Gpe m =
     × WalkStored m
 
 length0 : (m : Machine) → Gpe m → (m.settings.gpe0.length % 2 ≡ 0) × (m.settings.gpe0.length ≤ gpe_longest)
-length0 m p = gpe-length m.settings.gpe0 p.0.gpe0-length p.0.gpe0-none
+length0 m p = gpe-length m.settings.gpe0 p.0.gpe0_length p.0.gpe0_none
 
 length1 : (m : Machine) → Gpe m → (m.settings.gpe1.length % 2 ≡ 0) × (m.settings.gpe1.length ≤ gpe_longest)
-length1 m p = gpe-length m.settings.gpe1 p.0.gpe1-length p.0.gpe1-none
+length1 m p = gpe-length m.settings.gpe1 p.0.gpe1_length p.0.gpe1_none
 
 module _ (m : Machine) (offset written : ℕ) where
   bytes0-written : offset < m.settings.gpe0.length → Gpe m → Gpe (gpe_written m false offset written)
@@ -537,27 +537,27 @@ module _ (s : Settings) where
   power-on-legal e t = both (listed (power_on s)) (settings_fit s) (power-on-listed e) t
 
 -- the machine of an accepted set-up is the one at power-on
-module _ (t : List ℕ) (event-homes control-homes : ℕ) (power-override : Bool) (pairs : List (List ℕ)) where
+module _ (t : List ℕ) (event_homes control_homes : ℕ) (power-override : Bool) (pairs : List (List ℕ)) where
   -- the general event bytes and what is stored of them, and W2's list, whatever the numbers of the table
-  pub set-up-gpe : (set_up_of t event-homes control-homes power-override pairs).answer ≡ answer.Done
-      → Gpe (set_up_of t event-homes control-homes power-override pairs).machine
+  pub set-up-gpe : (set_up_of t event_homes control_homes power-override pairs).answer ≡ answer.Done
+      → Gpe (set_up_of t event_homes control_homes power-override pairs).machine
   set-up-gpe e =
-      let s = settings_of t event-homes control-homes power-override pairs in
+      let s = settings_of t event_homes control_homes power-override pairs in
       let same = accepted-machine t s e in
-      rw same (power-on-gpe s (rw same at (accepted-legal t event-homes control-homes power-override pairs e)))
+      rw same (power-on-gpe s (rw same at (accepted-legal t event_homes control_homes power-override pairs e)))
 
-  pub set-up-listed : (set_up_of t event-homes control-homes power-override pairs).answer ≡ answer.Done
-      → listed (set_up_of t event-homes control-homes power-override pairs).machine ≡ true
+  pub set-up-listed : (set_up_of t event_homes control_homes power-override pairs).answer ≡ answer.Done
+      → listed (set_up_of t event_homes control_homes power-override pairs).machine ≡ true
   set-up-listed e =
-      let s = settings_of t event-homes control-homes power-override pairs in
+      let s = settings_of t event_homes control_homes power-override pairs in
       let same = accepted-machine t s e in
-      rw same (power-on-listed s (rw same at (accepted-legal t event-homes control-homes power-override pairs e)))
+      rw same (power-on-listed s (rw same at (accepted-legal t event_homes control_homes power-override pairs e)))
 
   -- "all that accepted setting up .. give are legal": from a table of bytes and six pairs of two, as the code's types have them
   pub set-up-legal : ((i : ℕ) → byte t i < 2 ^ 8) → length pairs ≡ 6 → any not_two pairs ≡ false
-      → (set_up_of t event-homes control-homes power-override pairs).answer ≡ answer.Done
-      → legal (set_up_of t event-homes control-homes power-override pairs).machine ≡ true
+      → (set_up_of t event_homes control_homes power-override pairs).answer ≡ answer.Done
+      → legal (set_up_of t event_homes control_homes power-override pairs).machine ≡ true
   unfolding legal
   set-up-legal bytes six two e =
-      both (listed (set_up_of t event-homes control-homes power-override pairs).machine) _ (set-up-listed e)
-      (set-up-fits t event-homes control-homes power-override pairs bytes six two)
+      both (listed (set_up_of t event_homes control_homes power-override pairs).machine) _ (set-up-listed e)
+      (set-up-fits t event_homes control_homes power-override pairs bytes six two)

@@ -56,9 +56,9 @@ tmr-add s a b = go (fits s tmr_bit)
     go true = bit-or tmr_bit (eqb a 0) (eqb b 0) ∙ rw (sum-zero a b (eqb a 0) (eqb b 0) refl refl)
     go false = refl
 
-pub tmr-none : (s : Settings) → tmr_raised s 0 ≡ 0
+pub tmr_none : (s : Settings) → tmr_raised s 0 ≡ 0
 unfolding tmr_raised
-tmr-none s = rw (and-false (fits s tmr_bit))
+tmr_none s = rw (and-false (fits s tmr_bit))
 
 -- ---- a tick after others
 
@@ -71,7 +71,7 @@ ended m status counter hold off =
 -- a clock that starts anew
 pub timed-none : (m : Machine) → timed m (clock_of m) ≡ m
 unfolding timed
-timed-none m = ap (λ (x : ℕ). with_event m x m.pm1_en) (ap (bit_or m.pm1_sts) (tmr-none m.settings) ∙ or_zero_r m.pm1_sts)
+timed-none m = ap (λ (x : ℕ). with_event m x m.pm1_en) (ap (bit_or m.pm1_sts) (tmr_none m.settings) ∙ or_zero_r m.pm1_sts)
 
 status-next : (s : Settings) (status a b : ℕ) → bit_or (bit_or status (tmr_raised s a)) (tmr_raised s (0 + b)) ≡ bit_or status (tmr_raised s (a + b))
 status-next s status a b = rw (or_assoc status, zero-add, tmr-add)

@@ -41,37 +41,37 @@ OneBlock s = (port : ℕ) (b c : FadtBlock) → holds (block_of s b) port ≡ tr
 
 -- what the test means, and so what every accepted set-up gives
 pub record Guaranteed (s : Settings) : Type 0 where
-  pub full-hardware : flag_of s.flags HW_REDUCED_ACPI ≡ false
-  pub evt-a-length : HasLength 4 s.pm1a_evt
-  pub evt-b-length : HasLength 4 s.pm1b_evt
-  pub cnt-a-length : HasLength 2 s.pm1a_cnt
-  pub cnt-b-length : HasLength 2 s.pm1b_cnt
-  pub pm2-length : HasLength 1 s.pm2_cnt
-  pub tmr-length : HasLength 4 s.pm_tmr
-  pub gpe0-length : HasGpeLength s.gpe0
-  pub gpe1-length : HasGpeLength s.gpe1
-  pub evt-b-none : HasNone s.pm1b_evt
-  pub cnt-b-none : HasNone s.pm1b_cnt
-  pub pm2-none : HasNone s.pm2_cnt
-  pub tmr-none : HasNone s.pm_tmr
-  pub gpe0-none : HasNone s.gpe0
-  pub gpe1-none : HasNone s.gpe1
-  pub evt-a-present : present s.pm1a_evt ≡ true
-  pub cnt-a-present : present s.pm1a_cnt ≡ true
-  pub evt-a-aligned : s.pm1a_evt.address % 4 ≡ 0
-  pub evt-b-aligned : s.pm1b_evt.address % 4 ≡ 0
-  pub tmr-aligned : s.pm_tmr.address % 4 ≡ 0
-  pub cnt-a-aligned : s.pm1a_cnt.address % 2 ≡ 0
-  pub cnt-b-aligned : s.pm1b_cnt.address % 2 ≡ 0
-  pub within-ports : (b : FadtBlock) → (block_of s b).address + (block_of s b).length ≤ port_limit
+  pub full_hardware : flag_of s.flags HW_REDUCED_ACPI ≡ false
+  pub evt_a_length : HasLength 4 s.pm1a_evt
+  pub evt_b_length : HasLength 4 s.pm1b_evt
+  pub cnt_a_length : HasLength 2 s.pm1a_cnt
+  pub cnt_b_length : HasLength 2 s.pm1b_cnt
+  pub pm2_length : HasLength 1 s.pm2_cnt
+  pub tmr_length : HasLength 4 s.pm_tmr
+  pub gpe0_length : HasGpeLength s.gpe0
+  pub gpe1_length : HasGpeLength s.gpe1
+  pub evt_b_none : HasNone s.pm1b_evt
+  pub cnt_b_none : HasNone s.pm1b_cnt
+  pub pm2_none : HasNone s.pm2_cnt
+  pub tmr_none : HasNone s.pm_tmr
+  pub gpe0_none : HasNone s.gpe0
+  pub gpe1_none : HasNone s.gpe1
+  pub evt_a_present : present s.pm1a_evt ≡ true
+  pub cnt_a_present : present s.pm1a_cnt ≡ true
+  pub evt_a_aligned : s.pm1a_evt.address % 4 ≡ 0
+  pub evt_b_aligned : s.pm1b_evt.address % 4 ≡ 0
+  pub tmr_aligned : s.pm_tmr.address % 4 ≡ 0
+  pub cnt_a_aligned : s.pm1a_cnt.address % 2 ≡ 0
+  pub cnt_b_aligned : s.pm1b_cnt.address % 2 ≡ 0
+  pub within_ports : (b : FadtBlock) → (block_of s b).address + (block_of s b).length ≤ port_limit
   pub one_block : OneBlock s
-  pub gpe1-above-gpe0 : present s.gpe1 ≡ true → event_count s.gpe0 ≤ s.gpe1_base
-  pub gpe1-numbers : present s.gpe1 ≡ true → s.gpe1_base + event_count s.gpe1 ≤ 256
-  pub commands-differ : (s.smi_cmd ≡ 0 → ⊥) → s.acpi_enable ≡ s.acpi_disable → ⊥
-  pub event-homes : bit_and s.event_homes 0xC731 ≡ s.event_homes
-  pub control-homes : bit_and s.control_homes 0x0007 ≡ s.control_homes
-  pub event-homes-in-b : present s.pm1b_evt ≡ false → s.event_homes ≡ 0
-  pub control-homes-in-b : present s.pm1b_cnt ≡ false → s.control_homes ≡ 0
-  pub pair-range : (i : ℕ) → i < length s.sleep.pairs → out_of_range (get_or s.sleep.pairs i []) ≡ false
-  pub pairs-differ : (i j : ℕ) → i < j → j < length s.sleep.pairs
+  pub gpe1_above_gpe0 : present s.gpe1 ≡ true → event_count s.gpe0 ≤ s.gpe1_base
+  pub gpe1_numbers : present s.gpe1 ≡ true → s.gpe1_base + event_count s.gpe1 ≤ 256
+  pub commands_differ : (s.smi_cmd ≡ 0 → ⊥) → s.acpi_enable ≡ s.acpi_disable → ⊥
+  pub event_homes : bit_and s.event_homes 0xC731 ≡ s.event_homes
+  pub control_homes : bit_and s.control_homes 0x0007 ≡ s.control_homes
+  pub event_homes_in_b : present s.pm1b_evt ≡ false → s.event_homes ≡ 0
+  pub control_homes_in_b : present s.pm1b_cnt ≡ false → s.control_homes ≡ 0
+  pub pair_range : (i : ℕ) → i < length s.sleep.pairs → out_of_range (get_or s.sleep.pairs i []) ≡ false
+  pub pairs_differ : (i j : ℕ) → i < j → j < length s.sleep.pairs
       → shared (present s.pm1b_cnt) (get_or s.sleep.pairs i []) (get_or s.sleep.pairs j []) ≡ false

@@ -86,7 +86,7 @@ module _ (s : Settings) (port : ℕ) where
           record {
             there = (holds-from (block_of s b) port m.inside).0;
             inside = m.inside;
-            no-earlier =
+            no_earlier =
                 each (λ c. address_field c < address_field b → holds (block_of s c) port ≡ false)
                 (λ j j< less.
                 below-or-beyond j m.place (λ h. m.passed j h)
@@ -99,8 +99,8 @@ module _ (s : Settings) (port : ℕ) where
   first_alone : (b c : FadtBlock) (offset other : ℕ) → FirstHolds s port b offset → FirstHolds s port c other → b ≡ c
   first_alone b c offset other m n =
       fields-differ b c
-      (below-or-beyond (address_field b) (address_field c) (λ h. absurd (not-both _ m.inside (n.no-earlier b h)))
-      (λ h. below-or-beyond (address_field c) (address_field b) (λ k. absurd (not-both _ n.inside (m.no-earlier c k))) (λ k. omega arith)))
+      (below-or-beyond (address_field b) (address_field c) (λ h. absurd (not-both _ m.inside (n.no_earlier b h)))
+      (λ h. below-or-beyond (address_field c) (address_field b) (λ k. absurd (not-both _ n.inside (m.no_earlier c k))) (λ k. omega arith)))
 
   means-alone : (p q : Place) → Means s port p → Means s port q → p ≡ q
   means-alone (place.In b offset) (place.In c other) m n =
@@ -141,7 +141,7 @@ module _ (s : Settings) (b : FadtBlock) (offset : ℕ) (there : present (block_o
       (record {
         there = there;
         inside = holds-its-own;
-        no-earlier = λ c less. go c less (holds (block_of s c) ((block_of s b).address + offset)) refl;
+        no_earlier = λ c less. go c less (holds (block_of s c) ((block_of s b).address + offset)) refl;
         at = omega arith;
       })
     where

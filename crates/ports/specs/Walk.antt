@@ -27,7 +27,7 @@ NoneHolds s port = (b : FadtBlock) → holds (block_of s b) port ≡ false
 pub record FirstHolds (s : Settings) (port : ℕ) (b : FadtBlock) (offset : ℕ) : Type 0 where
   pub there : present (block_of s b) ≡ true
   pub inside : holds (block_of s b) port ≡ true
-  pub no-earlier : (c : FadtBlock) → address_field c < address_field b → holds (block_of s c) port ≡ false
+  pub no_earlier : (c : FadtBlock) → address_field c < address_field b → holds (block_of s c) port ≡ false
   pub at : offset ≡ port - (block_of s b).address
 
 abbrev pub Means : Settings → ℕ → Place → Type 0

@@ -83,7 +83,7 @@ module _ (m : Machine) (e : legal m ≡ true) where
 
   pair_fits : (i : ℕ) → i < 6 → pair_value (pair_of m.settings i) < 16 ^ 4
   pair_fits i h =
-      let (a, b) = pair-bytes (pair_of m.settings i) (g.pair-range i (rw f.six h)) in
+      let (a, b) = pair-bytes (pair_of m.settings i) (g.pair_range i (rw f.six h)) in
       omega (arith, a, b)
 
   register-fits : (of : Column) (x home : ℕ) → bit_and x (bit_and (mask_of of m.settings.flags (present m.settings.pm_tmr) cells) home) < 16 ^ 4
@@ -107,23 +107,23 @@ module _ (m : Machine) (e : legal m ≡ true) where
   all_fit =
       let s = m.settings in
       let command = command-small m l.command-byte in
-      hex-row "SMI_CMD" 16 _ _ _ (omega (arith, g.within-ports fadt.SmiCmd))
+      hex-row "SMI_CMD" 16 _ _ _ (omega (arith, g.within_ports fadt.SmiCmd))
       (hex-row "ACPI_ENABLE" 2 _ _ _ f.enable
       (hex-row "ACPI_DISABLE" 2 _ _ _ f.disable
-      (hex-row "PM1a_EVT_BLK" 16 _ _ _ (omega (arith, g.within-ports fadt.Pm1aEvtBlk))
-      (hex-row "PM1b_EVT_BLK" 16 _ _ _ (omega (arith, g.within-ports fadt.Pm1bEvtBlk))
-      (hex-row "PM1a_CNT_BLK" 16 _ _ _ (omega (arith, g.within-ports fadt.Pm1aCntBlk))
-      (hex-row "PM1b_CNT_BLK" 16 _ _ _ (omega (arith, g.within-ports fadt.Pm1bCntBlk))
-      (hex-row "PM2_CNT_BLK" 16 _ _ _ (omega (arith, g.within-ports fadt.Pm2CntBlk))
-      (hex-row "PM_TMR_BLK" 16 _ _ _ (omega (arith, g.within-ports fadt.PmTmrBlk))
-      (hex-row "GPE0_BLK" 16 _ _ _ (omega (arith, g.within-ports fadt.Gpe0Blk))
-      (hex-row "GPE1_BLK" 16 _ _ _ (omega (arith, g.within-ports fadt.Gpe1Blk))
-      (hex-row "PM1_EVT_LEN" 2 _ _ _ (rw (g.evt-a-length g.evt-a-present) (lit< tt))
-      (hex-row "PM1_CNT_LEN" 2 _ _ _ (rw (g.cnt-a-length g.cnt-a-present) (lit< tt))
-      (hex-row "PM2_CNT_LEN" 2 _ _ _ (length-small s.pm2_cnt 1 (lit< tt) g.pm2-length g.pm2-none)
-      (hex-row "PM_TMR_LEN" 2 _ _ _ (length-small s.pm_tmr 4 (lit< tt) g.tmr-length g.tmr-none)
-      (hex-row "GPE0_BLK_LEN" 2 _ _ _ (gpe-length-small s.gpe0 g.gpe0-length g.gpe0-none)
-      (hex-row "GPE1_BLK_LEN" 2 _ _ _ (gpe-length-small s.gpe1 g.gpe1-length g.gpe1-none)
+      (hex-row "PM1a_EVT_BLK" 16 _ _ _ (omega (arith, g.within_ports fadt.Pm1aEvtBlk))
+      (hex-row "PM1b_EVT_BLK" 16 _ _ _ (omega (arith, g.within_ports fadt.Pm1bEvtBlk))
+      (hex-row "PM1a_CNT_BLK" 16 _ _ _ (omega (arith, g.within_ports fadt.Pm1aCntBlk))
+      (hex-row "PM1b_CNT_BLK" 16 _ _ _ (omega (arith, g.within_ports fadt.Pm1bCntBlk))
+      (hex-row "PM2_CNT_BLK" 16 _ _ _ (omega (arith, g.within_ports fadt.Pm2CntBlk))
+      (hex-row "PM_TMR_BLK" 16 _ _ _ (omega (arith, g.within_ports fadt.PmTmrBlk))
+      (hex-row "GPE0_BLK" 16 _ _ _ (omega (arith, g.within_ports fadt.Gpe0Blk))
+      (hex-row "GPE1_BLK" 16 _ _ _ (omega (arith, g.within_ports fadt.Gpe1Blk))
+      (hex-row "PM1_EVT_LEN" 2 _ _ _ (rw (g.evt_a_length g.evt_a_present) (lit< tt))
+      (hex-row "PM1_CNT_LEN" 2 _ _ _ (rw (g.cnt_a_length g.cnt_a_present) (lit< tt))
+      (hex-row "PM2_CNT_LEN" 2 _ _ _ (length-small s.pm2_cnt 1 (lit< tt) g.pm2_length g.pm2_none)
+      (hex-row "PM_TMR_LEN" 2 _ _ _ (length-small s.pm_tmr 4 (lit< tt) g.tmr_length g.tmr_none)
+      (hex-row "GPE0_BLK_LEN" 2 _ _ _ (gpe-length-small s.gpe0 g.gpe0_length g.gpe0_none)
+      (hex-row "GPE1_BLK_LEN" 2 _ _ _ (gpe-length-small s.gpe1 g.gpe1_length g.gpe1_none)
       (hex-row "GPE1_BASE" 2 _ _ _ f.base
       (hex-row "FLAGS" 8 _ _ _ f.flags
       (hex-row "EVENT_HOMES" 4 _ _ _ (event-homes-small s g f)

@@ -31,7 +31,7 @@ use Rattle.read_back.proofs.Parts.{past-line}
 
 -- the general event records of a text's parts
 abbrev gpe_in : Parts → List ℕ
-gpe_in p = gpe_text (own0 p.values) (own1 p.values) p.gpe0-sts p.gpe0-en p.gpe1-sts p.gpe1-en
+gpe_in p = gpe_text (own0 p.values) (own1 p.values) p.gpe0_sts p.gpe0_en p.gpe1_sts p.gpe1_en
 
 module _ (edition : ℕ) where
   row-formed : (r : Row) (v : ℕ) (rest : List ℕ) → Sound r → read_in edition r (text_in edition r v ++ rest) ≡ v

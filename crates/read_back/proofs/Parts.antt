@@ -151,8 +151,8 @@ module _ (m : Machine) (e : legal m ≡ true) where
   pub parts-back : parts_in newest (saved_text m) ≡ parts_of m
   unfolding gpe_legal
   parts-back =
-      let (o, short) = own-bytes m.settings.gpe0 g.gpe0-length g.gpe0-none in
-      let (o', short') = own-bytes m.settings.gpe1 g.gpe1-length g.gpe1-none in
+      let (o, short) = own-bytes m.settings.gpe0 g.gpe0_length g.gpe0_none in
+      let (o', short') = own-bytes m.settings.gpe1 g.gpe1_length g.gpe1_none in
       let half = m.settings.gpe0.length / 2 in
       let half' = m.settings.gpe1.length / 2 in
       rw (values-back, gpe-there)

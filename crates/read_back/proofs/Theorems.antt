@@ -47,7 +47,7 @@ use Rattle.read_back.proofs.Parts.{parts-back}
 legal-exactly : (p : Parts) → legal (machine_of p) ≡ is_legal (legality_of (machine_of p))
 unfolding legal
 legal-exactly p =
-    rw (read_fits p.values p.gpe0-sts p.gpe0-en p.gpe1-sts p.gpe1-en, and-true) (listed-exactly (machine_of p))
+    rw (read_fits p.values p.gpe0_sts p.gpe0_en p.gpe1_sts p.gpe1_en, and-true) (listed-exactly (machine_of p))
 
 -- the judgement of a machine, and of its values
 done-legal : (m : Machine) (vs : List ℕ) → is_done (legal_answer m vs) ≡ (is_legal (legality_of m) && same_text (values_of m) vs)
@@ -137,7 +137,7 @@ reads-as-it-stands text e =
     let k = edition_of newest text in
     let p = parts_in k text in
     ap (λ (m : Machine). text_of k (parts (values_of (read_of text).machine) m.gpe0_sts m.gpe0_en m.gpe1_sts m.gpe1_en)) (accepted-machine text e)
-    ∙ ap (λ (vs : List ℕ). text_of k (parts vs p.gpe0-sts p.gpe0-en p.gpe1-sts p.gpe1-en)) (accepted-values text e)
+    ∙ ap (λ (vs : List ℕ). text_of k (parts vs p.gpe0_sts p.gpe0_en p.gpe1_sts p.gpe1_en)) (accepted-values text e)
     ∙ sym (accepted-text text e)
 
 -- "reading and writing back any accepted text of the newest edition gives the same text"

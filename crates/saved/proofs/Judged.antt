@@ -82,5 +82,5 @@ module _ (edition : ℕ) (text : List ℕ) (at₀ : ℕ) (vs : List ℕ) (own ow
       ap (λ (l : List ℕ). parts l s e s' e') same
       ∙ ap (λ (l : List ℕ). parts vs' l e s' e') e₁
       ∙ ap (λ (l : List ℕ). parts vs' (bytes_read "GPE0_STS" (own0 vs') (drop (gpe_at edition) text)) l s' e') e₂
-      ∙ ap (λ (l : List ℕ). parts vs' (parts_in edition text).gpe0-sts (parts_in edition text).gpe0-en l e') e₃
-      ∙ ap (λ (l : List ℕ). parts vs' (parts_in edition text).gpe0-sts (parts_in edition text).gpe0-en (parts_in edition text).gpe1-sts l) e₄
+      ∙ ap (λ (l : List ℕ). parts vs' (parts_in edition text).gpe0_sts (parts_in edition text).gpe0_en l e') e₃
+      ∙ ap (λ (l : List ℕ). parts vs' (parts_in edition text).gpe0_sts (parts_in edition text).gpe0_en (parts_in edition text).gpe1_sts l) e₄

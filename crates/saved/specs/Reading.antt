@@ -57,7 +57,7 @@ parts_in edition text = parts_from (values_read edition text) (drop (gpe_at edit
 
 -- the machine of the parts
 abbrev pub machine_of : Parts → Machine
-machine_of p = machine_from p.values p.gpe0-sts p.gpe0-en p.gpe1-sts p.gpe1-en
+machine_of p = machine_from p.values p.gpe0_sts p.gpe0_en p.gpe1_sts p.gpe1_en
 
 abbrev pub machine_in : ℕ → List ℕ → Machine
 machine_in edition text = machine_of (parts_in edition text)

@@ -21,14 +21,14 @@ newest = 2
 -- what a text says: the values of its records, and the general event bytes
 pub record Parts : Type 0 where
   pub values : List ℕ
-  pub gpe0-sts : List ℕ
-  pub gpe0-en : List ℕ
-  pub gpe1-sts : List ℕ
-  pub gpe1-en : List ℕ
+  pub gpe0_sts : List ℕ
+  pub gpe0_en : List ℕ
+  pub gpe1_sts : List ℕ
+  pub gpe1_en : List ℕ
 
 abbrev pub parts : List ℕ → List ℕ → List ℕ → List ℕ → List ℕ → Parts
-parts vs gpe0-sts gpe0-en gpe1-sts gpe1-en =
-    record { values = vs; gpe0-sts = gpe0-sts; gpe0-en = gpe0-en; gpe1-sts = gpe1-sts; gpe1-en = gpe1-en }
+parts vs gpe0_sts gpe0_en gpe1_sts gpe1_en =
+    record { values = vs; gpe0_sts = gpe0_sts; gpe0_en = gpe0_en; gpe1_sts = gpe1_sts; gpe1_en = gpe1_en }
 
 -- "half as many bytes as the block's length record says, rounded down, and at most 8"
 abbrev pub own_bytes : ℕ → ℕ
@@ -51,11 +51,11 @@ bytes_record name own bytes = ascii name ++ (tab ∷ (bytes_text (take own bytes
 
 -- "the four GPE records, the only ones of varying length, always stand last"
 abbrev pub gpe_text : ℕ → ℕ → List ℕ → List ℕ → List ℕ → List ℕ → List ℕ
-gpe_text own0 own1 gpe0-sts gpe0-en gpe1-sts gpe1-en =
-    bytes_record "GPE0_STS" own0 gpe0-sts ++
-    (bytes_record "GPE0_EN" own0 gpe0-en ++
-    (bytes_record "GPE1_STS" own1 gpe1-sts ++
-    bytes_record "GPE1_EN" own1 gpe1-en))
+gpe_text own0 own1 gpe0_sts gpe0_en gpe1_sts gpe1_en =
+    bytes_record "GPE0_STS" own0 gpe0_sts ++
+    (bytes_record "GPE0_EN" own0 gpe0_en ++
+    (bytes_record "GPE1_STS" own1 gpe1_sts ++
+    bytes_record "GPE1_EN" own1 gpe1_en))
 
 -- the text of an edition
 abbrev pub text_of : ℕ → Parts → List ℕ
@@ -63,7 +63,7 @@ text_of edition p =
     edition_line edition ++
     (lf ∷
     (records_text edition rows p.values ++
-    gpe_text (own0 p.values) (own1 p.values) p.gpe0-sts p.gpe0-en p.gpe1-sts p.gpe1-en))
+    gpe_text (own0 p.values) (own1 p.values) p.gpe0_sts p.gpe0_en p.gpe1_sts p.gpe1_en))
 
 -- where the records begin, past the first line; and the general event bytes, past the records
 abbrev pub records_at : ℕ → ℕ

@@ -25,8 +25,8 @@ by-walk-from m stored =
 
 -- after any steps from setting up, and from a legal machine
 pub by-walk : ByWalk set_up_of step_of
-by-walk t event-homes control-homes power-override pairs e steps =
-    by-walk-from _ (walk_after _ steps (set-up-gpe t event-homes control-homes power-override pairs e))
+by-walk t event_homes control_homes power-override pairs e steps =
+    by-walk-from _ (walk_after _ steps (set-up-gpe t event_homes control_homes power-override pairs e))
 
 pub by-walk-from-legal : AfterLegal step_of (ByWalkFrom step_of)
 by-walk-from-legal m e steps = by-walk-from _ (walk_after m steps (legal-gpe m e))

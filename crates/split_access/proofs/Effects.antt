@@ -151,8 +151,8 @@ gpe1_after s (gpe k) xs = cond ((in_gpe0 s k || in_gpe1 s k) && not (in_gpe0 s k
 
 -- whether a general event is enabled
 abbrev pub pending_by : Settings → StatusBit → List ℕ → List ℕ → Bool
-pending_by s (pm1 i) gpe0-en gpe1-en = false
-pending_by s (gpe k) gpe0-en gpe1-en = (in_gpe0 s k || in_gpe1 s k) && cond (in_gpe0 s k) (is_enabled gpe0-en k) (is_enabled gpe1-en (number_in s k))
+pending_by s (pm1 i) gpe0_en gpe1_en = false
+pending_by s (gpe k) gpe0_en gpe1_en = (in_gpe0 s k || in_gpe1 s k) && cond (in_gpe0 s k) (is_enabled gpe0_en k) (is_enabled gpe1_en (number_in s k))
 
 abbrev pub effect_by : Settings → StatusBit → EventKind → Effect
 effect_by s bit k =

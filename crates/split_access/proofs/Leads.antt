@@ -25,22 +25,22 @@ module _ (s : Settings) (legal : Guaranteed s) (offset : ℕ) where
     offset-is = ap offset_in (leads-to-own s b offset there inside legal.one_block)
 
   pub event-a : offset < s.pm1a_evt.length → register_at s (s.pm1a_evt.address + offset) ≡ register.Pm1Evt false
-  event-a o = register-is fadt.Pm1aEvtBlk legal.evt-a-present o
+  event-a o = register-is fadt.Pm1aEvtBlk legal.evt_a_present o
 
   pub event-b : present s.pm1b_evt ≡ true → offset < s.pm1a_evt.length → register_at s (s.pm1b_evt.address + offset) ≡ register.Pm1Evt true
   event-b p o =
-      let a = legal.evt-a-length legal.evt-a-present in
-      let b = legal.evt-b-length p in
+      let a = legal.evt_a_length legal.evt_a_present in
+      let b = legal.evt_b_length p in
       register-is fadt.Pm1bEvtBlk p (omega arith)
 
   pub control-a : offset < s.pm1a_cnt.length → register_at s (s.pm1a_cnt.address + offset) ≡ register.Pm1Cnt false
-  control-a o = register-is fadt.Pm1aCntBlk legal.cnt-a-present o
+  control-a o = register-is fadt.Pm1aCntBlk legal.cnt_a_present o
 
   pub offset-a : offset < s.pm1a_evt.length → offset_at s (s.pm1a_evt.address + offset) ≡ offset
-  offset-a o = offset-is fadt.Pm1aEvtBlk legal.evt-a-present o
+  offset-a o = offset-is fadt.Pm1aEvtBlk legal.evt_a_present o
 
   pub offset-b : present s.pm1b_evt ≡ true → offset < s.pm1a_evt.length → offset_at s (s.pm1b_evt.address + offset) ≡ offset
   offset-b p o =
-      let a = legal.evt-a-length legal.evt-a-present in
-      let b = legal.evt-b-length p in
+      let a = legal.evt_a_length legal.evt_a_present in
+      let b = legal.evt_b_length p in
       offset-is fadt.Pm1bEvtBlk p (omega arith)

@@ -48,13 +48,13 @@ all-legal m [] e = e
 all-legal m (x ∷ steps) e = (e, all-legal (after m x) steps (legal-kept m x e))
 
 -- "all that accepted setting up .. and any steps then give are legal": from a table of bytes and six pairs of two
-pub set-up-legal-after : (t : List ℕ) (event-homes control-homes : ℕ) (power-override : Bool) (pairs : List (List ℕ))
+pub set-up-legal-after : (t : List ℕ) (event_homes control_homes : ℕ) (power-override : Bool) (pairs : List (List ℕ))
     → ((i : ℕ) → byte t i < 2 ^ 8) → length pairs ≡ 6 → any not_two pairs ≡ false
-    → (set_up_of t event-homes control-homes power-override pairs).answer ≡ set-up.Done
+    → (set_up_of t event_homes control_homes power-override pairs).answer ≡ set-up.Done
     → (steps : List Step)
-    → legal (after_all after (set_up_of t event-homes control-homes power-override pairs).machine steps) ≡ true
-set-up-legal-after t event-homes control-homes power-override pairs bytes six two e steps =
-    legal-after _ steps (set-up-legal t event-homes control-homes power-override pairs bytes six two e)
+    → legal (after_all after (set_up_of t event_homes control_homes power-override pairs).machine steps) ≡ true
+set-up-legal-after t event_homes control_homes power-override pairs bytes six two e steps =
+    legal-after _ steps (set-up-legal t event_homes control_homes power-override pairs bytes six two e)
 
 -- ---- demand 3
 

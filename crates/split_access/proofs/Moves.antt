@@ -135,6 +135,6 @@ moves_from m legal items end on awake run =
 
 -- "The list starts at a machine as setting up gives it"
 pub demand-3 : Demand3 set_up_of step_of
-demand-3 t event-homes control-homes power-override pairs e =
-    moves_from (set_up_of t event-homes control-homes power-override pairs).machine
-    (accepted-guaranteed t event-homes control-homes power-override pairs e)
+demand-3 t event_homes control_homes power-override pairs e =
+    moves_from (set_up_of t event_homes control_homes power-override pairs).machine
+    (accepted-guaranteed t event_homes control_homes power-override pairs e)

@@ -43,7 +43,7 @@ alarm_after_reads = record { offset = 0; width = 2; gap₁ = []; gap₂ = step.E
 
 alarm-after-on : RoundOn (platform alarm_in_b) alarm_after_reads
 unfolding present Every
-alarm-after-on = record { in-status = omega arith; b-present = refl; steps₁ = tt; steps₂ = (gap_step event.Alarm, tt); steps₃ = tt; steps₄ = tt }
+alarm-after-on = record { in_status = omega arith; b_present = refl; steps₁ = tt; steps₂ = (gap_step event.Alarm, tt); steps₃ = tt; steps₄ = tt }
 
 -- "A 04:00 alarm that arrived while the power button was handled was wiped with it.": A reads and writes back 0100, and the alarm's bit 10 is gone
 pub whole-clear-refuted : WriteBack set_up_of clears_all → ⊥
@@ -61,7 +61,7 @@ alarm_between_reads = record { offset = 0; width = 2; gap₁ = step.Event event.
 
 alarm-between-on : (homes : ℕ) → RoundOn (platform homes) alarm_between_reads
 unfolding present Every
-alarm-between-on homes = record { in-status = omega arith; b-present = refl; steps₁ = (gap_step event.Alarm, tt); steps₂ = tt; steps₃ = tt; steps₄ = tt }
+alarm-between-on homes = record { in_status = omega arith; b_present = refl; steps₁ = (gap_step event.Alarm, tt); steps₂ = tt; steps₃ = tt; steps₄ = tt }
 
 -- "an alarm between the two accesses was in neither the value read nor the register afterwards": A, its home, reads 0; B shows 0400 and its write clears it
 pub one-register-refuted : WriteBack set_up_of one_register → ⊥

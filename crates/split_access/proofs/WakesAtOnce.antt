@@ -121,8 +121,8 @@ wakes-at-once-after m steps p = wakes-at-once-from (after_all after m steps) (wa
 
 -- "after any steps from setting up"
 pub wakes-at-once : WakesAtOnce set_up_of step_of
-wakes-at-once t event-homes control-homes power-override pairs e steps =
-    wakes-at-once-after _ steps (set-up-gpe t event-homes control-homes power-override pairs e)
+wakes-at-once t event_homes control_homes power-override pairs e steps =
+    wakes-at-once-after _ steps (set-up-gpe t event_homes control_homes power-override pairs e)
 
 -- after any steps from a legal machine
 pub wakes-at-once-from-legal : AfterLegal step_of (WakesAtOnceFrom step_of)

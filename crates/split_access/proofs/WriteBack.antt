@@ -226,8 +226,8 @@ gpe-room m w b = rw (sized-at m w.sized b) (go b)
     short k has none false p = let l = none p in omega arith
 
     go : (b : Bool) → event_count (gpe_block m.settings b) ≤ 8 * gpe_bytes
-    go true = short m.settings.gpe1 w.legal.gpe1-length w.legal.gpe1-none (present m.settings.gpe1) refl
-    go false = short m.settings.gpe0 w.legal.gpe0-length w.legal.gpe0-none (present m.settings.gpe0) refl
+    go true = short m.settings.gpe1 w.legal.gpe1_length w.legal.gpe1_none (present m.settings.gpe1) refl
+    go false = short m.settings.gpe0 w.legal.gpe0_length w.legal.gpe0_none (present m.settings.gpe0) refl
 
 gpe-law : (b : Bool) (i j : ℕ) → j < 8 → (m : Machine) (x : Step) → Wide m → digit j (gpe_clears m x b i) ≡ 0
     → digit j (get_or (gpe_sts (after m x) b) i 0) ≡ max (digit j (get_or (gpe_sts m b) i 0)) (digit j (gpe_raises m x b i))
@@ -256,7 +256,7 @@ gap-keeps field up down i law f k (x ∷ l) steps awake = (one x steps.0 awake.0
 
 module _ (m : Machine) (w : Wide m) (r : Round) (on : RoundOn m.settings r) where
   within : r.offset < m.settings.pm1a_evt.length
-  within = let l = w.legal.evt-a-length w.legal.evt-a-present in let o = on.in-status in omega arith
+  within = let l = w.legal.evt_a_length w.legal.evt_a_present in let o = on.in_status in omega arith
 
   -- a half that writes back, on a machine with the same settings
   write-a : (n : Machine) (v i : ℕ) → n.settings ≡ m.settings
@@ -270,8 +270,8 @@ module _ (m : Machine) (w : Wide m) (r : Round) (on : RoundOn m.settings r) wher
       → (digit i (placed r.offset v) ≡ 0) ⊎ (digit i (status_in m.settings true) ≡ 0)
       → digit i (clears n (step.Write (access_at m.settings.pm1b_evt r.offset r.width) v)) ≡ 0
   write-b n v i e h =
-      write-clears-none n _ v true i (rw e (event-b m.settings w.legal r.offset on.b-present within))
-      (rw (e, offset-b m.settings w.legal r.offset on.b-present within) h)
+      write-clears-none n _ v true i (rw e (event-b m.settings w.legal r.offset on.b_present within))
+      (rw (e, offset-b m.settings w.legal r.offset on.b_present within) h)
 
   -- the value of the bit's home does not show it: the half of its home does not write it, and the other half is not its home
   spared : (i : ℕ) → i < 16 → (va vb : ℕ) (t : Bool) → lives_in_b m.settings (pm1 i) ≡ t → digit i (placed r.offset (cond t vb va)) ≡ 0
@@ -309,7 +309,7 @@ module _ (m : Machine) (w : Wide m) (r : Round) (on : RoundOn m.settings r) wher
             r.gap₁ r.gap₂ r.gap₃ r.gap₄ _ _ _ same on.steps₁ on.steps₂ on.steps₃ on.steps₄
             (λ n e. digit-none j _ (gpe-read-clears-none n _ b i))
             (λ n e. digit-none j _ (gpe-write-clears-none n _ va false b i (rw e (event-a s w.legal r.offset within))))
-            (λ n e. digit-none j _ (gpe-write-clears-none n _ vb true b i (rw e (event-b s w.legal r.offset on.b-present within))))
+            (λ n e. digit-none j _ (gpe-write-clears-none n _ vb true b i (rw e (event-b s w.legal r.offset on.b_present within))))
             awake.1)
             raised;
       }
@@ -335,9 +335,9 @@ power-on-wide s legal =
 
 -- "after any steps from setting up"
 pub write-back : WriteBack set_up_of step_of
-write-back t event-homes control-homes power-override pairs e steps =
-    let s = settings_of t event-homes control-homes power-override pairs in
-    let m = (set_up_of t event-homes control-homes power-override pairs).machine in
-    let legal = accepted-guaranteed t event-homes control-homes power-override pairs e in
+write-back t event_homes control_homes power-override pairs e steps =
+    let s = settings_of t event_homes control_homes power-override pairs in
+    let m = (set_up_of t event_homes control_homes power-override pairs).machine in
+    let legal = accepted-guaranteed t event_homes control_homes power-override pairs e in
     let start : Wide m = rw (accepted-machine t s e) (power-on-wide s (rw (accepted-machine t s e) at legal)) in
     writes-back-from (after_all after m steps) (wide-all m steps start)

@@ -27,9 +27,9 @@ InS0 m = m.state ≡ 0
 -- "The list starts at a machine as setting up gives it": P of every machine of an accepted set-up
 abbrev pub FromSetUp : SettingUp → (Machine → Type 0) → Type 0
 FromSetUp setting P =
-    (t : List ℕ) (event-homes control-homes : ℕ) (power-override : Bool) (pairs : List (List ℕ))
-    → (setting t event-homes control-homes power-override pairs).answer ≡ set-up.Done
-    → P (setting t event-homes control-homes power-override pairs).machine
+    (t : List ℕ) (event_homes control_homes : ℕ) (power-override : Bool) (pairs : List (List ℕ))
+    → (setting t event_homes control_homes power-override pairs).answer ≡ set-up.Done
+    → P (setting t event_homes control_homes power-override pairs).machine
 
 -- "after any steps from setting up": P of every machine that such steps lead to
 abbrev pub AfterSteps : SettingUp → Stepping → (Machine → Type 0) → Type 0

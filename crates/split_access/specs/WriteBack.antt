@@ -31,8 +31,8 @@ pub record Round : Type 0 where
 
 -- "a split read of status bytes", of any width at any offset of the status half; "only gap steps, mixed in any way"
 pub record RoundOn (s : Settings) (r : Round) : Type 0 where
-  pub in-status : r.offset < 2
-  pub b-present : present s.pm1b_evt ≡ true
+  pub in_status : r.offset < 2
+  pub b_present : present s.pm1b_evt ≡ true
   pub steps₁ : Every GapStep r.gap₁
   pub steps₂ : Every GapStep r.gap₂
   pub steps₃ : Every GapStep r.gap₃

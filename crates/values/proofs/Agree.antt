@@ -16,13 +16,13 @@ use Rattle.model.specs.Legal.{legal}
 use Rattle.values.specs.Values.{values_of, settings_from, machine_from, values_agree}
 use Rattle.values.proofs.RoundTrip.{machine-back}
 
-module _ (vs gpe0-sts gpe0-en gpe1-sts gpe1-en : List ℕ) where
+module _ (vs gpe0_sts gpe0_en gpe1_sts gpe1_en : List ℕ) where
   -- the test: the machine of the values has these values
-  pub agree-means : values_agree vs ≡ true → values_of (machine_from vs gpe0-sts gpe0-en gpe1-sts gpe1-en) ≡ vs
+  pub agree-means : values_agree vs ≡ true → values_of (machine_from vs gpe0_sts gpe0_en gpe1_sts gpe1_en) ≡ vs
   unfolding values_agree
   agree-means e = same-equal (values_of (machine_from vs [] [] [] [])) vs e
 
-  pub means-agree : values_of (machine_from vs gpe0-sts gpe0-en gpe1-sts gpe1-en) ≡ vs → values_agree vs ≡ true
+  pub means-agree : values_of (machine_from vs gpe0_sts gpe0_en gpe1_sts gpe1_en) ≡ vs → values_agree vs ≡ true
   unfolding values_agree
   means-agree e = rw e (same_self vs)
 

@@ -17,9 +17,9 @@ use Rattle.model.specs.declared.Step.{Step}
 use Rattle.model.proofs.Settings.{settings-kept}
 use Rattle.values.specs.Values.{machine_from}
 
-pub read_fits : (vs gpe0-sts gpe0-en gpe1-sts gpe1-en : List ℕ) → fits_types (machine_from vs gpe0-sts gpe0-en gpe1-sts gpe1-en) ≡ true
+pub read_fits : (vs gpe0_sts gpe0_en gpe1_sts gpe1_en : List ℕ) → fits_types (machine_from vs gpe0_sts gpe0_en gpe1_sts gpe1_en) ≡ true
 unfolding settings_fit not_two any
-read_fits vs gpe0-sts gpe0-en gpe1-sts gpe1-en =
+read_fits vs gpe0_sts gpe0_en gpe1_sts gpe1_en =
     rw (
       lt-ltb (get_or vs 1 0 % 2 ^ 8) (2 ^ 8) (mod-lt (get_or vs 1 0) (pow_pos 8)),
       lt-ltb (get_or vs 2 0 % 2 ^ 8) (2 ^ 8) (mod-lt (get_or vs 2 0) (pow_pos 8)),

@@ -84,14 +84,14 @@ none-of-present b p q = absurd (false≢true (sym q ∙ p))
 
 module _ (s : Settings) (g : Guaranteed s) (f : Fit s) where
   pub event-homes-small : s.event_homes < 2 ^ 16
-  event-homes-small = within-small 0xC731 s.event_homes (lit< tt) g.event-homes
+  event-homes-small = within-small 0xC731 s.event_homes (lit< tt) g.event_homes
 
   pub control-homes-small : s.control_homes < 2 ^ 16
-  control-homes-small = within-small 0x0007 s.control_homes (lit< tt) g.control-homes
+  control-homes-small = within-small 0x0007 s.control_homes (lit< tt) g.control_homes
 
   pair-at : (i : ℕ) → i < 6 → pair_value (pair_of s i) / 2 ^ 8 % 2 ^ 8 ∷ pair_value (pair_of s i) % 2 ^ 8 ∷ [] ≡ pair_of s i
   pair-at i h =
-      let (a, b) = pair-bytes (pair_of s i) (g.pair-range i (rw f.six h)) in
+      let (a, b) = pair-bytes (pair_of s i) (g.pair_range i (rw f.six h)) in
       pair-back (pair_of s i) (f.two i h) a b
 
   pub settings-back : (vs : List ℕ) → settings_from (settings_values s ++ vs) ≡ s
@@ -99,14 +99,14 @@ module _ (s : Settings) (g : Guaranteed s) (f : Fit s) where
       rw (
         mod-eq_of_lt f.enable,
         mod-eq_of_lt f.disable,
-        shared-length s.pm1a_evt s.pm1a_evt 4 (lit< tt) g.evt-a-present g.evt-a-length g.evt-a-length (none-of-present _ g.evt-a-present),
-        shared-length s.pm1a_evt s.pm1b_evt 4 (lit< tt) g.evt-a-present g.evt-a-length g.evt-b-length g.evt-b-none,
-        shared-length s.pm1a_cnt s.pm1a_cnt 2 (lit< tt) g.cnt-a-present g.cnt-a-length g.cnt-a-length (none-of-present _ g.cnt-a-present),
-        shared-length s.pm1a_cnt s.pm1b_cnt 2 (lit< tt) g.cnt-a-present g.cnt-a-length g.cnt-b-length g.cnt-b-none,
-        block_back s.pm2_cnt (length-small _ 1 (lit< tt) g.pm2-length g.pm2-none),
-        block_back s.pm_tmr (length-small _ 4 (lit< tt) g.tmr-length g.tmr-none),
-        block_back s.gpe0 (gpe-length-small _ g.gpe0-length g.gpe0-none),
-        block_back s.gpe1 (gpe-length-small _ g.gpe1-length g.gpe1-none),
+        shared-length s.pm1a_evt s.pm1a_evt 4 (lit< tt) g.evt_a_present g.evt_a_length g.evt_a_length (none-of-present _ g.evt_a_present),
+        shared-length s.pm1a_evt s.pm1b_evt 4 (lit< tt) g.evt_a_present g.evt_a_length g.evt_b_length g.evt_b_none,
+        shared-length s.pm1a_cnt s.pm1a_cnt 2 (lit< tt) g.cnt_a_present g.cnt_a_length g.cnt_a_length (none-of-present _ g.cnt_a_present),
+        shared-length s.pm1a_cnt s.pm1b_cnt 2 (lit< tt) g.cnt_a_present g.cnt_a_length g.cnt_b_length g.cnt_b_none,
+        block_back s.pm2_cnt (length-small _ 1 (lit< tt) g.pm2_length g.pm2_none),
+        block_back s.pm_tmr (length-small _ 4 (lit< tt) g.tmr_length g.tmr_none),
+        block_back s.gpe0 (gpe-length-small _ g.gpe0_length g.gpe0_none),
+        block_back s.gpe1 (gpe-length-small _ g.gpe1_length g.gpe1_none),
         mod-eq_of_lt f.base,
         mod-eq_of_lt f.flags,
         mod-eq_of_lt event-homes-small,

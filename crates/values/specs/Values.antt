@@ -158,11 +158,11 @@ slp_typ_in vs i = get_or vs i 0 / 2 ^ SLP_TYPx % 8
 -- the machine, with its general event bytes: GPE0_STS, GPE0_EN, GPE1_STS, GPE1_EN. Whether an enabled bit is set among them: "The saved text does not
 -- carry it; the reader works it out." (request W7)
 abbrev pub machine_from : List ℕ → List ℕ → List ℕ → List ℕ → List ℕ → Machine
-machine_from vs gpe0-sts gpe0-en gpe1-sts gpe1-en =
+machine_from vs gpe0_sts gpe0_en gpe1_sts gpe1_en =
     walked
     (made (settings_from vs)
     (bit_or (word_in vs 28) (word_in vs 29), bit_or (word_in vs 30) (word_in vs 31))
-    (gpe0-sts, gpe0-en, gpe1-sts, gpe1-en, false)
+    (gpe0_sts, gpe0_en, gpe1_sts, gpe1_en, false)
     (dword_in vs 35, dword_in vs 36, flag_in vs 37)
     (bit_in vs 38 8, byte_in vs 38)
     (control_bit_in vs SCI_EN, control_bit_in vs BM_RLD, flag_in vs 39, slp_typ_in vs 32, slp_typ_in vs 33, bit_in vs 34 ARB_DIS)

@@ -21,7 +21,7 @@ set-up-requires : tie.Need-set-up-requires
 set-up-requires c κs = search rules
 
 returns : tie.Need-returns
-returns c = simp (c.set-up.ensures, c.before.pairs.ensures, c.before.before.power-override.ensures, c.before.before.before.control-homes.ensures, c.before.before.before.before.event-homes.ensures, c.before.before.before.before.before.line-from.ensures)
+returns c = simp (c.set-up.ensures, c.before.pairs.ensures, c.before.before.power-override.ensures, c.before.before.before.control_homes.ensures, c.before.before.before.before.event_homes.ensures, c.before.before.before.before.before.line-from.ensures)
 
 pub set-up-by-spec : {M : Type 1} → statement M
 set-up-by-spec =

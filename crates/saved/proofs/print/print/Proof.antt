@@ -26,7 +26,7 @@ returns : tie.Need-returns
 returns c =
     let start : _ = c.before.before.before.before.before.before.before.before.before.before.before.before.before.before in
     all-written start.args.buf.now _ _ _ start.args.values
-    (gpe_text start.args.own0 start.args.own1 start.args.gpe0-sts start.args.gpe0-en start.args.gpe1-sts start.args.gpe1-en)
+    (gpe_text start.args.own0 start.args.own1 start.args.gpe0_sts start.args.gpe0_en start.args.gpe1_sts start.args.gpe1_en)
     start.args.edition c.before.before.before.before.before.before.before.records-at.result start.args.at c.before.before.before.before.before.before.before.records-at.ensures start.requires.0
     c.before.before.before.before.before.before.before.before.before.before.before.put-edition.ensures c.before.before.before.before.before.before.write-records.ensures c.before.before.put-gpe.ensures
 

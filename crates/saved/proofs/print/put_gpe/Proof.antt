@@ -66,13 +66,13 @@ returns : tie.Need-returns
 unfolding ascii
 returns c =
     let start : _ = c.before.before.before.before.before.before.before.before.before.before.before.before.before.before.before.before.before.before.before.before.before in
-    let l : length start.args.gpe0-sts ≡ 8 = search rules in
-    let l' : length start.args.gpe0-en ≡ 8 = search rules in
-    let l'' : length start.args.gpe1-sts ≡ 8 = search rules in
-    let h : start.args.own0 ≤ length start.args.gpe0-sts = omega (arith, start.requires.0.0, l) in
-    let i : start.args.own0 ≤ length start.args.gpe0-en = omega (arith, start.requires.0.0, l') in
-    let j : start.args.own1 ≤ length start.args.gpe1-sts = omega (arith, start.requires.0.1, l'') in
-    gpe-written start.args.buf.now _ _ _ _ start.args.gpe0-sts start.args.gpe0-en start.args.gpe1-sts start.args.gpe1-en start.args.at start.args.own0 start.args.own1 h i j
+    let l : length start.args.gpe0_sts ≡ 8 = search rules in
+    let l' : length start.args.gpe0_en ≡ 8 = search rules in
+    let l'' : length start.args.gpe1_sts ≡ 8 = search rules in
+    let h : start.args.own0 ≤ length start.args.gpe0_sts = omega (arith, start.requires.0.0, l) in
+    let i : start.args.own0 ≤ length start.args.gpe0_en = omega (arith, start.requires.0.0, l') in
+    let j : start.args.own1 ≤ length start.args.gpe1_sts = omega (arith, start.requires.0.1, l'') in
+    gpe-written start.args.buf.now _ _ _ _ start.args.gpe0_sts start.args.gpe0_en start.args.gpe1_sts start.args.gpe1_en start.args.at start.args.own0 start.args.own1 h i j
     c.before.before.before.before.before.before.before.before.before.before.before.before.before.before.before.before.before.put-bytes.ensures
     c.before.before.before.before.before.before.before.before.before.before.before.before.put-bytes2.ensures
     c.before.before.before.before.before.before.before.put-bytes3.ensures

@@ -23,11 +23,11 @@ add-result-3 c = search rules
 
 returns : tie.Need-returns
 returns c =
-    let l : length c.args.gpe0-sts ≡ 8 = search rules in
-    let l' : length c.args.gpe0-en ≡ 8 = search rules in
-    let l'' : length c.args.gpe1-sts ≡ 8 = search rules in
-    let l''' : length c.args.gpe1-en ≡ 8 = search rules in
-    let long = gpe-length c.args.gpe0-sts c.args.gpe0-en c.args.gpe1-sts c.args.gpe1-en c.args.own0 c.args.own1 (omega arith) (omega arith) (omega arith) (omega arith) in
+    let l : length c.args.gpe0_sts ≡ 8 = search rules in
+    let l' : length c.args.gpe0_en ≡ 8 = search rules in
+    let l'' : length c.args.gpe1_sts ≡ 8 = search rules in
+    let l''' : length c.args.gpe1_en ≡ 8 = search rules in
+    let long = gpe-length c.args.gpe0_sts c.args.gpe0_en c.args.gpe1_sts c.args.gpe1_en c.args.own0 c.args.own1 (omega arith) (omega arith) (omega arith) (omega arith) in
     omega (arith, long)
 
 pub text-length-spec : {M : Type 1} → statement M

@@ -23,25 +23,25 @@ print-requires c κs = search rules
 array-share-prefix-printed : tie.Need-array-share-prefix-printed
 array-share-prefix-printed c =
     let start : _ = c.before.before.before.before.before in
-    let l₁ : length start.args.gpe0-sts ≡ 8 = search rules in
-    let l₂ : length start.args.gpe0-en ≡ 8 = search rules in
-    let l₃ : length start.args.gpe1-sts ≡ 8 = search rules in
-    let l₄ : length start.args.gpe1-en ≡ 8 = search rules in
+    let l₁ : length start.args.gpe0_sts ≡ 8 = search rules in
+    let l₂ : length start.args.gpe0_en ≡ 8 = search rules in
+    let l₃ : length start.args.gpe1_sts ≡ 8 = search rules in
+    let l₄ : length start.args.gpe1_en ≡ 8 = search rules in
     let room : length c.before.print.new.0 ≡ 1024 = search rules in
     rw room (printed-short start.args.edition start.args.at start.args.own0 start.args.own1 c.before.before.before.text-length.result start.args.values
-    start.args.gpe0-sts start.args.gpe0-en start.args.gpe1-sts start.args.gpe1-en start.requires.0 (omega arith)
+    start.args.gpe0_sts start.args.gpe0_en start.args.gpe1_sts start.args.gpe1_en start.requires.0 (omega arith)
     (omega (arith, start.requires.1.0)) (omega (arith, start.requires.1.1)) l₁ l₂ l₃ l₄ c.before.before.before.text-length.ensures)
 
 slice-aggregate-compare : tie.Need-slice-aggregate-compare
 slice-aggregate-compare c =
     let start : _ = c.before.before.before.before.before.before in
-    let l₁ : length start.args.gpe0-sts ≡ 8 = search rules in
-    let l₂ : length start.args.gpe0-en ≡ 8 = search rules in
-    let l₃ : length start.args.gpe1-sts ≡ 8 = search rules in
-    let l₄ : length start.args.gpe1-en ≡ 8 = search rules in
+    let l₁ : length start.args.gpe0_sts ≡ 8 = search rules in
+    let l₂ : length start.args.gpe0_en ≡ 8 = search rules in
+    let l₃ : length start.args.gpe1_sts ≡ 8 = search rules in
+    let l₄ : length start.args.gpe1_en ≡ 8 = search rules in
     let room : length c.before.before.print.new.0 ≡ 1024 = search rules in
     sym (length-take-le _ c.before.before.print.new.0 (rw room (printed-short start.args.edition start.args.at start.args.own0 start.args.own1 c.before.before.before.before.text-length.result start.args.values
-    start.args.gpe0-sts start.args.gpe0-en start.args.gpe1-sts start.args.gpe1-en start.requires.0 (omega arith)
+    start.args.gpe0_sts start.args.gpe0_en start.args.gpe1_sts start.args.gpe1_en start.requires.0 (omega arith)
     (omega (arith, start.requires.1.0)) (omega (arith, start.requires.1.1)) l₁ l₂ l₃ l₄ c.before.before.before.before.text-length.ensures)))
 
 compare-requires : tie.Need-compare-requires
@@ -50,13 +50,13 @@ compare-requires c κs = search rules
 returns : tie.Need-returns
 returns c =
     let start : _ = c.before.before.before.before.before.before.before in
-    let l₁ : length start.args.gpe0-sts ≡ 8 = search rules in
-    let l₂ : length start.args.gpe0-en ≡ 8 = search rules in
-    let l₃ : length start.args.gpe1-sts ≡ 8 = search rules in
-    let l₄ : length start.args.gpe1-en ≡ 8 = search rules in
+    let l₁ : length start.args.gpe0_sts ≡ 8 = search rules in
+    let l₂ : length start.args.gpe0_en ≡ 8 = search rules in
+    let l₃ : length start.args.gpe1_sts ≡ 8 = search rules in
+    let l₄ : length start.args.gpe1_en ≡ 8 = search rules in
     c.compare.ensures
     ∙ ap (text_answer start.args.text.now) (rw (← start.requires.1.0, ← start.requires.1.1) (printed-whole start.args.edition start.args.at start.args.own0 start.args.own1 c.before.before.before.before.before.text-length.result start.args.values
-    start.args.gpe0-sts start.args.gpe0-en start.args.gpe1-sts start.args.gpe1-en start.requires.0 (omega arith)
+    start.args.gpe0_sts start.args.gpe0_en start.args.gpe1_sts start.args.gpe1_en start.requires.0 (omega arith)
     (omega (arith, start.requires.1.0)) (omega (arith, start.requires.1.1)) l₁ l₂ l₃ l₄ c.before.before.before.before.before.text-length.ensures c.before.before.before.print.new.0 _ refl c.before.before.before.print.ensures))
 
 pub judge-text-spec : {M : Type 1} → statement M
