@@ -25,6 +25,7 @@ pub fn take16(old: u16, written: u16, mask: u16) -> u16
 }
 
 // Whether no bit of x lies outside the mask.
+#[tactic(auto, unfolding(crate::specs::Writes::within))]
 pub fn within16(mask: u16, x: u16) -> bool
     ensures { result ≡ within mask x }
 {

@@ -34,6 +34,7 @@ fn size(wide: bool) -> u64
 }
 
 // One of the n ticks brings the power button override.
+#[tactic(auto, unfolding(crate::specs::AtOnce::off_within))]
 fn is_overridden(down: bool, fitted: bool, hold: u32, n: u32) -> bool
     ensures { result ≡ off_within down fitted hold n }
 {
@@ -42,6 +43,7 @@ fn is_overridden(down: bool, fitted: bool, hold: u32, n: u32) -> bool
 }
 
 // How many of the n ticks run: all, or those up to the override.
+#[tactic(auto, unfolding(crate::specs::AtOnce::off_within, crate::specs::AtOnce::ran_of))]
 fn ran(down: bool, fitted: bool, hold: u32, n: u32) -> u32
     ensures { result ≡ ran_of down fitted hold n }
 {
@@ -53,6 +55,7 @@ fn ran(down: bool, fitted: bool, hold: u32, n: u32) -> u32
 }
 
 // Zero ticks leave a counter alone that is past its size.
+#[tactic(auto, unfolding(crate::specs::AtOnce::counter_after))]
 fn counter_after(wide: bool, counter: u32, n: u32) -> u32
     ensures { result ≡ counter_after (counter_bits wide) counter n }
 {
@@ -63,6 +66,7 @@ fn counter_after(wide: bool, counter: u32, n: u32) -> u32
 }
 
 // The top bit changes wherever the count passes a multiple of half the counter's size.
+#[tactic(auto, unfolding(crate::specs::AtOnce::turns_in))]
 fn turns_in(wide: bool, counter: u32, n: u32) -> u32
     ensures { result ≡ turns_in (counter_bits wide) counter n }
 {
@@ -72,6 +76,7 @@ fn turns_in(wide: bool, counter: u32, n: u32) -> u32
     (after - before) as u32
 }
 
+#[tactic(auto, unfolding(crate::specs::AtOnce::hold_after))]
 fn hold_after(down: bool, hold: u32, n: u32) -> u32
     ensures { result ≡ hold_after down hold n }
 {

@@ -1,5 +1,5 @@
 -- Whether a list holds what a test looks for.
-use Rattle.std.specs.Prelude.{Bool, true, false, cond, ◌||◌, ℕ, suc, List, [], ◌∷◌}
+use Rattle.std.specs.Prelude.{Bool, false, cond, ◌||◌, ℕ, suc, List, [], ◌∷◌}
 
 -- some element passes
 unfoldable pub any : {A : Type 0} → (A → Bool) → List A → Bool
