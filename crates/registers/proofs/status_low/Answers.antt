@@ -1,0 +1,6 @@
+use borrow.Author.Rules.{rules}
+use Rattle.bits.proofs.Algebra.{masked-twice}
+use Rattle.registers.proofs.status_low.Goals as goal
+
+pub returns : goal.returns
+returns c = simp (c.clear16.ensures, c.low_in.ensures, c.from_low.ensures, masked-twice)
