@@ -4,12 +4,8 @@ use Rattle.text.specs.Numbers.{digit_of, value_from, all_digits, is_number, numb
 use Rattle.records.specs.Ascii.{ascii}
 use Rattle.records.specs.Rows.{rows}
 use Rattle.records.specs.Table.{form_of, row_of, rows_of}
-use Rattle.records.proofs.table.table.Statement.{statement}
-use Rattle.records.proofs.table.table.Tie as tie
+use Rattle.records.proofs.table.table.Goals as goal
 
-returns : tie.Need-returns
+pub returns : goal.returns
 unfolding rows ascii rows_of row_of form_of digit_of value_from all_digits is_number number_of
 returns c = refl
-
-pub table-spec : {M : Type 1} → statement M
-table-spec = tie.close (tie.spec returns)
