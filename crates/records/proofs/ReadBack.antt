@@ -11,7 +11,6 @@ use lib.Seq.{drop-drop, drop_at, take_at}
 use Rattle.lists.specs.Any.{any}
 use Rattle.lists.proofs.Tests.{or_left, or_right}
 use Rattle.text.specs.Numbers.{digits}
-use Rattle.text.specs.Parts.{tab}
 use Rattle.text.proofs.Digits.{digits-length, number-of-digits}
 use Rattle.records.specs.Rows.{Row, hex, flag, command, row_count, rows}
 use Rattle.records.specs.Records.{command_of, formed, record_text, is_in, text_in, records_text, length_in, records_length, value_in, read_in, values_in, Fits, AllFit}

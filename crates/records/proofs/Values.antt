@@ -7,7 +7,7 @@ use Rattle.records.specs.Rows.{Row, hex, flag, command, added, row}
 use Rattle.records.specs.Records.{command_of, formed, record_text, records_text, value_in, values_in}
 use Rattle.records.specs.Bytes.{bytes_text, bytes_in}
 
-pub address-b2 : record_text (row "SMI_CMD" hex 16) 0xB2 ≡ ascii "SMI_CMD\t00000000000000_b2\n"
+pub address-b2 : record_text (row "SMI_CMD" hex 16) 0xB2 ≡ ascii "SMI_CMD\t00000000000000B2\n"
 unfolding ascii digits glyph formed
 address-b2 = refl
 
@@ -21,7 +21,7 @@ unfolding ascii digits glyph formed
 flag-2 = refl
 
 -- the command A0 waits, and none
-pub command-a0 : record_text (row "COMMAND" command 3) 0x1A0 ≡ ascii "COMMAND\t1_a0\n"
+pub command-a0 : record_text (row "COMMAND" command 3) 0x1A0 ≡ ascii "COMMAND\t1A0\n"
 unfolding ascii digits glyph formed command_of
 command-a0 = refl
 
@@ -34,7 +34,7 @@ pub pair-0505 : value_in (row "S3" hex 4) (ascii "S3\t0505\n") ≡ 0x0505
 unfolding ascii digit_of value_from all_digits is_number number_of
 pair-0505 = refl
 
-pub pair-none : value_in (row "S3" hex 4) (ascii "S3\t05_g5\n") ≡ 0
+pub pair-none : value_in (row "S3" hex 4) (ascii "S3\t05G5\n") ≡ 0
 unfolding ascii digit_of value_from all_digits is_number number_of
 pair-none = refl
 
@@ -50,7 +50,7 @@ pub text-1 : records_text 1 two (3 ∷ 9 ∷ []) ≡ ascii "STATE\t3\n"
 unfolding ascii digits glyph formed records_text
 text-1 = refl
 
-pub text-2 : records_text 2 two (3 ∷ 9 ∷ []) ≡ ascii "STATE\t3\n_wake\t09\n"
+pub text-2 : records_text 2 two (3 ∷ 9 ∷ []) ≡ ascii "STATE\t3\nWAKE\t09\n"
 unfolding ascii digits glyph formed records_text
 text-2 = refl
 
@@ -58,7 +58,7 @@ pub older-text : values_in 1 two (ascii "STATE\t3\n") ≡ 3 ∷ 5 ∷ []
 unfolding ascii digit_of value_from all_digits is_number number_of values_in
 older-text = refl
 
-pub newer-text : values_in 2 two (ascii "STATE\t3\n_wake\t09\n") ≡ 3 ∷ 9 ∷ []
+pub newer-text : values_in 2 two (ascii "STATE\t3\nWAKE\t09\n") ≡ 3 ∷ 9 ∷ []
 unfolding ascii digit_of value_from all_digits is_number number_of values_in
 newer-text = refl
 

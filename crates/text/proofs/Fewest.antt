@@ -10,7 +10,6 @@ use native.Mathlib.Omega.{arith}
 use borrow.Author.Tests.{ltb-true, ltb-false, lt-ltb, le-ltb}
 use lib.Dec.{ltb}
 use lib.ListN.{length}
-use Rattle.lists.specs.Any.{any}
 use Rattle.text.specs.Numbers.{digit_of, value_from, value_of, all_digits, number_of, digits, count_within, digit_count, as_written}
 use Rattle.text.proofs.Digits.{some, shorter, longer, value-below, number-of-digits, written_all, written-number, number-is-value, digits-of-value}
 
