@@ -21,6 +21,7 @@ pub fn data_too_wide(width: u32, written: u64) -> bool
 }
 
 // 23: the port lies in no block.
+#[tactic(auto, unfolding(model::specs::Bus::leads_nowhere))]
 pub fn leads_nowhere(r: Register) -> bool
     ensures { result ≡ leads_nowhere r }
 {
@@ -36,6 +37,7 @@ pub fn leads_nowhere(r: Register) -> bool
 }
 
 // 24 is where this is false: one byte, a PM1 register also whole, the timer only whole.
+#[tactic(auto, unfolding(model::specs::Bus::allowed))]
 pub fn allowed(r: Register, width: u32, offset: u64) -> bool
     ensures { result ≡ allowed r width offset }
 {

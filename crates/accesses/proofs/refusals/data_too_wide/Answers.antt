@@ -1,0 +1,7 @@
+use Rattle.model.specs.Bus.{data_too_wide}
+use borrow.Author.Rules.{rules}
+use Rattle.accesses.proofs.refusals.data_too_wide.Goals as goal
+
+pub returns : goal.returns
+unfolding data_too_wide
+returns c = simp (c.pick64-limit.ensures, c.pick64.ensures)
