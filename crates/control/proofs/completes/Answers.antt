@@ -1,0 +1,7 @@
+use Rattle.model.specs.Control.{completes}
+use borrow.Author.Rules.{rules}
+use Rattle.control.proofs.completes.Goals as goal
+
+pub returns : goal.returns
+unfolding completes
+returns c = simp (c.pick_bool.ensures, c.has_pm1b_cnt.ensures, c.sets_slp_en.ensures)
