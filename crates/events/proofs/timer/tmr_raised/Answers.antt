@@ -1,0 +1,7 @@
+use Rattle.model.specs.Events.{tmr_raised}
+use borrow.Author.Rules.{rules}
+use Rattle.events.proofs.timer.tmr_raised.Goals as goal
+
+pub returns : goal.returns
+unfolding tmr_raised
+returns c = simp (c.pick16.ensures, c.fits.ensures)
