@@ -1,0 +1,12 @@
+use borrow.Author.Rules.{rules}
+use native.Mathlib.Omega.{arith}
+use Rattle.listing.proofs.Laws.{room-suffices, put-there, put-nowhere, put-past}
+use Rattle.listing.proofs.write_entry.Goals as goal
+
+pub returns-then-entry_length-room : goal.returns-then-entry_length-room
+returns-then-entry_length-room c =
+    put-there _ c.args.answer _ c.args.m _ _ c.entry_length.ensures _ _ _ _ _ c.if-at-room.true c.if-entry_length-room.true
+    c.number-number.ensures c.value-value.ensures c.sci-sci.ensures c.smi-smi.ensures c.put_at.ensures
+
+pub returns-else-entry_length-room : goal.returns-else-entry_length-room
+returns-else-entry_length-room c = put-nowhere _ c.args.answer _ c.args.m _ _ c.entry_length.ensures c.if-at-room.true c.if-entry_length-room.false
