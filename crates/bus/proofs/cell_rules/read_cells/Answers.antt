@@ -1,5 +1,6 @@
 -- `bus::cell_rules::read_cells` meets its contract: each arm is the rule of its byte, and past a register's bytes nothing shows. Assumes nothing.
 use Rattle.model.specs.Bus.{read_of}
+use native.Mathlib.Omega.{arith}
 use borrow.Author.Rules.{rules}
 use Rattle.registers.specs.Registers.{in_status, in_enable}
 use Rattle.bus.proofs.Laws.{cell-in-status, cell-past-status, past-four, past_two, event-read-past, control-read-past}
@@ -49,11 +50,11 @@ returns-in-PmTmr c = simp (c.timer_register.ensures, c.in-PmTmr.is)
 
 pub returns-in-0-to-255 : goal.returns-in-0-to-255
 unfolding read_of
-returns-in-0-to-255 c = simp (c.gpe_byte.ensures, cell-in-status _ _ _ _ c.gpe_number-number.ensures c.in_default-number.if-number-lt256-own.true, c.in-Gpe.is)
+returns-in-0-to-255 c = simp (c.gpe_byte.ensures, cell-in-status _ _ _ _ c.gpe_number-number.ensures (omega arith), c.in-Gpe.is)
 
 pub returns-in_default-number : goal.returns-in_default-number
 unfolding read_of
-returns-in_default-number c = simp (c.gpe_byte-in_default-number.ensures, c.past_status.ensures, cell-past-status _ _ _ _ c.gpe_number-number.ensures c.in_default-number.if-number-lt256-own.false, c.in-Gpe.is)
+returns-in_default-number c = simp (c.gpe_byte-in_default-number.ensures, c.past_status.ensures, cell-past-status _ _ _ _ c.gpe_number-number.ensures (omega arith), c.in-Gpe.is)
 
 pub returns-in-Nowhere : goal.returns-in-Nowhere
 unfolding read_of

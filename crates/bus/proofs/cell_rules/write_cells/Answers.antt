@@ -1,8 +1,10 @@
 -- `bus::cell_rules::write_cells` meets its contract: each arm is the rule of its register's byte. Assumes nothing.
 use mathlib.Core.Logic.{⊎_elim}
 use Rattle.bus.proofs.Laws.{machine-event, machine-control, cell-in-status, cell-past-status, past_two, at_register, smi-refuses, smi-takes, event-takes, control-takes, control-first, control-second, control-none, pm2-takes, timer-refuses, status-takes, enable-takes, nowhere-refuses}
+use native.Mathlib.Omega.{arith}
 use borrow.Author.Rules.{rules}
 use Rattle.bus.proofs.cell_rules.write_cells.Goals as goal
+use Rattle.bus.proofs.cell_rules.write_cells.Goals.{in-0, in-1, in_default}
 
 pub returns-then-m : goal.returns-then-m
 returns-then-m c =
@@ -24,14 +26,11 @@ returns-after-offset c =
     let wrote : _ = machine-control _ _ _ _ _ _ c.scalars-in-Pm1Cnt.ensures _ c.write.ensures in
     at_register c.args.m c.args.width c.args.offset c.args.written _ _ _ c.in-Pm1Cnt.is c.requires
     (control-takes c.args.m c.args.width c.args.offset c.args.written _ _
-    (⊎_elim
-    (λ w. control-first _ _ _ _ _ _ _ wrote w.0.keys1 w.1)
-    (λ v.
-    ⊎_elim
-    (λ w. control-second _ _ _ _ _ _ _ wrote w.0.keys2 w.1)
-    (λ w. let q : _ = w.0.rest in control-none _ _ _ _ _ _ _ wrote (past_two _ q.0.1 q.1) w.1)
-    v)
-    c.in_default.in_default-own.branch))
+    (elim c.match-offset.branch [
+      | in-0 w ↦ control-first _ _ _ _ _ _ _ wrote (omega arith) w.bytes-is
+      | in-1 w ↦ control-second _ _ _ _ _ _ _ wrote (omega arith) w.bytes-is
+      | in_default w ↦ control-none _ _ _ _ _ _ _ wrote (omega arith) w.bytes-is
+    ]))
 
 pub returns-in-Pm2Cnt : goal.returns-in-Pm2Cnt
 returns-in-Pm2Cnt c =
@@ -46,12 +45,12 @@ returns-in-PmTmr c =
 pub returns-in-0-to-255 : goal.returns-in-0-to-255
 returns-in-0-to-255 c =
     at_register c.args.m c.args.width c.args.offset c.args.written _ _ _ c.in-Gpe.is c.requires
-    (status-takes c.args.m c.args.width c.args.offset c.args.written _ _ (cell-in-status _ _ _ _ c.gpe_number-number.ensures c.in_default-number.if-number-lt256-own.true) (simp (c.stores.ensures, c.sts_byte.ensures, c.scalars-in-0-to-255.ensures, c.gpe_byte-sts.ensures)))
+    (status-takes c.args.m c.args.width c.args.offset c.args.written _ _ (cell-in-status _ _ _ _ c.gpe_number-number.ensures (omega arith)) (simp (c.stores.ensures, c.sts_byte.ensures, c.scalars-in-0-to-255.ensures, c.gpe_byte-sts.ensures)))
 
 pub returns-in_default-number : goal.returns-in_default-number
 returns-in_default-number c =
     at_register c.args.m c.args.width c.args.offset c.args.written _ _ _ c.in-Gpe.is c.requires
-    (enable-takes c.args.m c.args.width c.args.offset c.args.written _ _ (cell-past-status _ _ _ _ c.gpe_number-number.ensures c.in_default-number.if-number-lt256-own.false) (simp (c.stores-in_default-number.ensures, c.en_byte.ensures, c.scalars-in_default-number.ensures)))
+    (enable-takes c.args.m c.args.width c.args.offset c.args.written _ _ (cell-past-status _ _ _ _ c.gpe_number-number.ensures (omega arith)) (simp (c.stores-in_default-number.ensures, c.en_byte.ensures, c.scalars-in_default-number.ensures)))
 
 pub returns-in-Nowhere : goal.returns-in-Nowhere
 returns-in-Nowhere c =
