@@ -43,7 +43,7 @@ same_tests : (rules evt-b cnt-b status enables gpe0 gpe1 arb-dis state counter h
 same_tests true evt-b cnt-b status enables gpe0 gpe1 arb-dis state counter hold button pin command armed slp-typ-b command-byte slp-typs pending = refl
 same_tests false true cnt-b status enables gpe0 gpe1 arb-dis state counter hold button pin command armed slp-typ-b command-byte slp-typs pending = simp and-false
 same_tests false false true status enables gpe0 gpe1 arb-dis state counter hold button pin command armed slp-typ-b command-byte slp-typs pending = simp and-false
-same_tests false false false status enables gpe0 gpe1 arb-dis state counter hold button pin command armed slp-typ-b command-byte slp-typs pending = simp (and_assoc, and-true) (rw (and_assoc command-byte slp-typs pending))
+same_tests false false false status enables gpe0 gpe1 arb-dis state counter hold button pin command armed slp-typ-b command-byte slp-typs pending = simp (and_assoc, and-true)
 
 pub listed-exactly : (m : Machine) → listed m ≡ is_legal (legality_of m)
 unfolding listed legal_settings one_value after_settings legality_of

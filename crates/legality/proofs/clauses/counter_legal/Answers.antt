@@ -1,0 +1,7 @@
+use Rattle.model.specs.Legal.{counter_legal}
+use borrow.Author.Rules.{rules}
+use Rattle.legality.proofs.clauses.counter_legal.Goals as goal
+
+pub returns : goal.returns
+unfolding counter_legal
+returns c = simp (c.counter_fits.ensures, c.wide_timer.ensures)

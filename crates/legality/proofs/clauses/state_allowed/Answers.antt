@@ -1,0 +1,13 @@
+use mathlib.Core.List.{[]}
+use Prim.Native.Nat.{◌≤◌, ◌<◌}
+use native.Mathlib.Omega.{arith}
+use lib.ListN.{length}
+use Rattle.model.specs.Legal.{absent_pair}
+use Rattle.legality.proofs.Typed.{in_list, past-absent}
+use borrow.Author.Rules.{rules}
+use Rattle.legality.proofs.clauses.state_allowed.Goals as goal
+
+pub returns-else-i-lt6 : goal.returns-else-i-lt6
+returns-else-i-lt6 c =
+    let h : length c.args.pairs ≤ c.args.state = omega arith in
+    simp (c.if-state.false, past-absent c.args.pairs c.args.state h)
