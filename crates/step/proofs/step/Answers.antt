@@ -9,24 +9,14 @@ use Rattle.model.specs.declared.Effect.{Effect}
 use Rattle.model.specs.declared.Step.{Step}
 use Rattle.model.specs.declared.Stepped.{Stepped}
 use Rattle.model.proofs.Effects.{effect-law}
-use Rattle.step.proofs.step.Statement.{statement}
-use Rattle.step.proofs.step.Tie as tie
-
-effect-requires : tie.Need-effect-requires
-effect-requires c κs = search rules
-
-apply-requires : tie.Need-apply-requires
-apply-requires c κs = search rules
+use Rattle.step.proofs.step.Goals as goal
 
 is-stepped : (m : Machine) (s : Step) (e : Effect) (next : Machine) → e ≡ effect_of m s → next ≡ applied m e.scalars e.store e.next
     → ◌≡◌ {A = Stepped} (record { answer = e.answer; machine = next }) (step_of m s)
 is-stepped m s e next p q =
     ap (λ (x : Machine). record { answer = e.answer; machine = x }) q ∙ ap (stepped_by m) p ∙ effect-law m s
 
-returns : tie.Need-returns
+pub returns : goal.returns
 returns c =
-    let at : _ = c.before.before.before.before.args in
-    is-stepped at.m at.s _ _ c.before.before.before.effect.ensures c.apply.ensures
-
-pub step_spec : {M : Type 1} → statement M
-step_spec = tie.close (tie.spec effect-requires apply-requires returns)
+    let at : _ = c.args in
+    is-stepped at.m at.s _ _ c.effect-e.ensures c.apply-machine.ensures
