@@ -26,7 +26,7 @@ use Rattle.model.specs.EventKinds.{EventKind, event_kind}
 use Rattle.model.specs.EventKinds as kind
 use Rattle.model.specs.Events.{StatusBit, event_bit, pm1_mask, in_s5, press_of, signal_of, signal_wakes, pin_wakes, pin_of, in_gpe0, general_enabled, general_raised, general_of, timed, clock_after, ticked_by, turns_by, value_by, done_by, event_of}
 use Rattle.model.specs.Firmware.{is_acpi_enable, is_acpi_disable, sci_en_after, enables_after, take_of, drop_of}
-use Rattle.model.specs.Step.{register_of, offset_of, refusals_by, done_value, done_of, answer_to, accepted, after, step_of}
+use Rattle.model.specs.Step.{register_of, offset_of, refusals_by, done_value, done_of, answer_to, accepted, step_of}
 use Rattle.model.specs.declared.Answer.{Answer}
 use Rattle.model.specs.declared.Answer.TheVariants as answer
 use Rattle.model.specs.declared.Effect.{Effect}

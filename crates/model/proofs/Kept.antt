@@ -16,7 +16,6 @@ use lib.Seq.{get_or-drop}
 use Rattle.lists.specs.Any.{any}
 use Rattle.lists.proofs.Tests.{or_left, and_left, and_right}
 use Rattle.bits.specs.Writes.{kept, taken_by, within}
-use Rattle.cells.specs.Cells.{cells}
 use Rattle.sleep.specs.Pairs.{absent, named, first_from, state_of}
 use Rattle.clock.specs.AtOnce.{off_within as overridden_in, ran_of, counter_after, hold_after, after_of}
 use Rattle.clock.specs.Clock.{counter_bits}

@@ -1,5 +1,4 @@
 use Rattle.model.specs.Control.{armed_after}
-use borrow.Author.Rules.{rules}
 use Rattle.control.proofs.armed_after.Goals as goal
 
 pub returns : goal.returns

@@ -1,5 +1,4 @@
 use Rattle.model.specs.Control.{bm_rld_after}
-use borrow.Author.Rules.{rules}
 use Rattle.control.proofs.bm_rld_after.Goals as goal
 
 pub returns : goal.returns

@@ -1,5 +1,4 @@
 use Rattle.model.specs.Control.{completes}
-use borrow.Author.Rules.{rules}
 use Rattle.control.proofs.completes.Goals as goal
 
 pub returns : goal.returns

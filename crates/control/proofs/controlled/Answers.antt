@@ -1,5 +1,4 @@
 use Rattle.model.specs.Control.{typ_after}
-use borrow.Author.Rules.{rules}
 use Rattle.control.proofs.controlled.Goals as goal
 
 pub returns : goal.returns

@@ -1,5 +1,4 @@
 use Rattle.model.specs.Control.{gbl_rls_after}
-use borrow.Author.Rules.{rules}
 use Rattle.control.proofs.gbl_rls_after.Goals as goal
 
 pub returns : goal.returns

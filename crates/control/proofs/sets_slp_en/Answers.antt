@@ -1,5 +1,4 @@
 use Rattle.model.specs.Control.{sets_slp_en}
-use borrow.Author.Rules.{rules}
 use Rattle.control.proofs.sets_slp_en.Goals as goal
 
 pub returns : goal.returns

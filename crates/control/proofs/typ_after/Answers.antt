@@ -1,5 +1,4 @@
 use Rattle.model.specs.Control.{typ_after}
-use borrow.Author.Rules.{rules}
 use Rattle.control.proofs.typ_after.Goals as goal
 
 pub returns-then-of_b : goal.returns-then-of_b

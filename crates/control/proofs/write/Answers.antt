@@ -10,7 +10,6 @@ use Rattle.machine.specs.Scalars.{scalars_of}
 use Rattle.registers.specs.Registers.{has_pm1b_cnt}
 use Rattle.model.specs.Control.{named_state, controlled}
 use Rattle.model.specs.Effect.{control_write, completing}
-use borrow.Author.Rules.{rules}
 use Rattle.control.proofs.write.Goals as goal
 
 named : (m : Machine) (b : Bool) (width offset written : ℕ) (x : Scalars) (state : ℕ) → x ≡ scalars_of (controlled m b width offset written)

@@ -1,5 +1,4 @@
 use Rattle.fadt.specs.Fields.{dword}
-use Rattle.std.proofs.Common.{rules}
 use Rattle.fadt.proofs.dword_at.Goals as goal
 
 pub returns-then-i-table : goal.returns-then-i-table

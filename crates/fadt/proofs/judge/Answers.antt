@@ -1,4 +1,4 @@
-use Rattle.std.proofs.Common.{sym, ◌∙◌, rules}
+use Rattle.std.proofs.Common.{sym, ◌∙◌}
 use Rattle.platform.specs.Answer.{first_failing}
 use Rattle.fadt.proofs.judge.Goals as goal
 

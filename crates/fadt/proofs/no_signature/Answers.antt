@@ -1,6 +1,5 @@
 use mathlib.Core.Bool.{and-true}
 use Rattle.fadt.specs.Table.{no_signature, stands_at}
-use Rattle.std.proofs.Common.{rules}
 use Rattle.fadt.proofs.no_signature.Goals as goal
 
 pub returns : goal.returns

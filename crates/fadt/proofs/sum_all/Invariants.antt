@@ -1,6 +1,6 @@
 -- `fadt::sum_all` meets its contract. The loop's invariant: the total is the sum of the bytes passed, modulo 256.
 -- Assumes nothing.
-use Rattle.std.proofs.Common.{◌≡◌, ℕ, ◌+◌, ◌-◌, ◌%◌, ◌<◌, List, [], ◌∷◌, ◌++◌, length, get_or, take, refl, ap, ◌∙◌, add-one, arith, take_all, take-suc, rules}
+use Rattle.std.proofs.Common.{◌≡◌, ◌-◌, ◌%◌, length, take}
 use Rattle.fadt.specs.Table.{sum}
 use Rattle.fadt.proofs.sum_all.Given as goal
 

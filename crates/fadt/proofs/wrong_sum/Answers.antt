@@ -1,5 +1,4 @@
 use Rattle.fadt.specs.Table.{wrong_sum}
-use Rattle.std.proofs.Common.{rules}
 use Rattle.fadt.proofs.wrong_sum.Goals as goal
 
 pub returns : goal.returns

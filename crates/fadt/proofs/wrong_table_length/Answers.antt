@@ -1,5 +1,4 @@
 use Rattle.fadt.specs.Table.{wrong_table_length}
-use Rattle.std.proofs.Common.{rules}
 use Rattle.fadt.proofs.wrong_table_length.Goals as goal
 
 pub returns : goal.returns

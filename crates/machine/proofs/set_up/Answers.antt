@@ -1,5 +1,4 @@
 use mathlib.Core.Path.{sym, ◌∙◌}
-use borrow.Author.Rules.{rules}
 use Rattle.platform.specs.Answer.{first_failing}
 use Rattle.machine.proofs.set_up.Goals as goal
 

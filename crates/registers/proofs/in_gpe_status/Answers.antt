@@ -1,5 +1,4 @@
 use Rattle.registers.specs.Registers.{in_gpe_status}
-use borrow.Author.Rules.{rules}
 use Rattle.registers.proofs.in_gpe_status.Goals as goal
 
 pub returns : goal.returns

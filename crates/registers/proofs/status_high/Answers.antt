@@ -1,4 +1,3 @@
-use borrow.Author.Rules.{rules}
 use Rattle.bits.proofs.Algebra.{masked-twice}
 use Rattle.registers.proofs.status_high.Goals as goal
 

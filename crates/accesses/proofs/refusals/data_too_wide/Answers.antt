@@ -1,5 +1,4 @@
 use Rattle.model.specs.Bus.{data_too_wide}
-use borrow.Author.Rules.{rules}
 use Rattle.accesses.proofs.refusals.data_too_wide.Goals as goal
 
 pub returns : goal.returns

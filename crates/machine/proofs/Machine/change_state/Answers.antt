@@ -1,5 +1,4 @@
 use Rattle.machine.specs.Sleep.{state_changed}
-use borrow.Author.Rules.{rules}
 use Rattle.machine.proofs.Machine.change_state.Goals as goal
 
 pub returns-in-Wake : goal.returns-in-Wake

@@ -7,7 +7,6 @@ use Rattle.machine.specs.declared.sleeping.WakeSource.TheVariants as source
 use Rattle.machine.specs.Fields.{with_event, enter}
 use Rattle.machine.specs.Status.{wak_bit}
 use Rattle.machine.specs.Sleep.{is_sleeping, woken, pending, completed}
-use borrow.Author.Rules.{rules}
 use Rattle.machine.proofs.Machine.complete.Goals as goal
 
 -- a choice inside the fields, for a choice between two machines

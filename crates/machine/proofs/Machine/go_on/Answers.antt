@@ -1,5 +1,4 @@
 use Rattle.machine.specs.Sleep.{in_next_state}
-use borrow.Author.Rules.{rules}
 use Rattle.machine.proofs.Machine.go_on.Goals as goal
 
 pub returns-in-Same : goal.returns-in-Same

@@ -1,5 +1,4 @@
 use Rattle.machine.specs.Gpe.{byte_put}
-use borrow.Author.Rules.{rules}
 use Rattle.machine.proofs.Machine.put_byte.Goals as goal
 
 pub returns-in-None : goal.returns-in-None

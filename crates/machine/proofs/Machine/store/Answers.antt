@@ -1,6 +1,5 @@
 use mathlib.Core.Path.{sym, ◌∙◌}
 use Rattle.machine.specs.Gpe.{stored}
-use borrow.Author.Rules.{rules}
 use Rattle.machine.proofs.Machine.store.Goals as goal
 
 pub returns-then-stores : goal.returns-then-stores

@@ -1,5 +1,4 @@
 use Rattle.machine.specs.Gpe.{byte_stored}
-use borrow.Author.Rules.{rules}
 use Rattle.machine.proofs.Machine.store_byte.Goals as goal
 
 pub returns-then-walks : goal.returns-then-walks

@@ -1,13 +1,10 @@
 -- `machine::gpe::any_enabled` meets its contract. The loop's invariant: what was found, or what the walk over the bytes that are left finds, is what
 -- the whole walk finds. Assumes nothing.
-use mathlib.Core.Path.{◌≡◌, refl, sym, ◌∙◌}
-use mathlib.Core.Bool.{◌||◌, or-false}
-use Prim.Native.Nat.{◌≤◌, ◌<◌, ◌-◌}
-use borrow.Author.Rules.{rules}
-use native.Mathlib.Omega.{arith}
+use mathlib.Core.Path.{◌≡◌}
+use mathlib.Core.Bool.{◌||◌}
+use Prim.Native.Nat.{◌-◌}
 use lib.ListN.{length, drop}
 use Rattle.machine.specs.Lines.{any_enabled}
-use Rattle.machine.proofs.AnyEnabled.{any-found-turn, any-enabled-end}
 use Rattle.machine.proofs.gpe.any_enabled.Given as goal
 
 abbrev pub invariant-loop-i : goal.invariant-loop-i

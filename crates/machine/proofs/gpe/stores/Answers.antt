@@ -1,5 +1,4 @@
 use Rattle.machine.specs.Gpe.{stores}
-use borrow.Author.Rules.{rules}
 use Rattle.machine.proofs.gpe.stores.Goals as goal
 
 pub returns-in-None : goal.returns-in-None

@@ -1,7 +1,6 @@
 -- `machine::lines::event_bits` meets its contract: 0721 hex is the table's event column. Assumes nothing.
 use mathlib.Core.Bool.{false}
 use mathlib.Core.Path.{◌∙◌}
-use borrow.Author.Rules.{rules}
 use Rattle.cells.proofs.Masks.{event-bits}
 use Rattle.machine.proofs.lines.event_bits.Goals as goal
 

@@ -1,5 +1,4 @@
 use Rattle.machine.specs.Lines.{awake, sci_of}
-use borrow.Author.Rules.{rules}
 use Rattle.machine.proofs.lines.sci.Goals as goal
 
 pub returns : goal.returns

@@ -1,5 +1,4 @@
 use Rattle.machine.specs.Lines.{awake, smi_of}
-use borrow.Author.Rules.{rules}
 use Rattle.machine.proofs.lines.smi.Goals as goal
 
 pub returns : goal.returns

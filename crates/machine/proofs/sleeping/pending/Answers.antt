@@ -1,5 +1,4 @@
 use Rattle.machine.specs.Sleep.{pending}
-use borrow.Author.Rules.{rules}
 use Rattle.machine.proofs.sleeping.pending.Goals as goal
 
 pub returns : goal.returns

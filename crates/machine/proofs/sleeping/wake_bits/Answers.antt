@@ -1,5 +1,4 @@
 use Rattle.machine.specs.Sleep.{wake_bits}
-use borrow.Author.Rules.{rules}
 use Rattle.machine.proofs.sleeping.wake_bits.Goals as goal
 
 pub returns : goal.returns
