@@ -2,11 +2,12 @@
 #![tactic(auto)]
 
 ghost use Rattle.std.specs.Prelude.{◌≡◌, ◌+◌, length};
-ghost use Rattle.io.specs.Counts.{IsPrefixLen};
+ghost use Rattle.files.specs.Counts.{IsPrefixLen};
 ghost use Rattle.session.specs.Session.{limit};
 
-use libc::{STDIN_FILENO, STDOUT_FILENO};
 use session::{LIMIT, SessionAnswer};
+use std::fs::{File, Files};
+use std::io::Read;
 
 // One byte more than a script may have, to see that it is longer.
 fn script_buffer() -> [u8; LIMIT + 1]
@@ -22,12 +23,13 @@ fn listing_buffer() -> [u8; 330000]
     [0; 330000]
 }
 
-fn main() {
-    let mut table = io::large_buffer();
-    let table_length = read_table(&mut table);
+fn main(rt: HostRuntime) {
+    let mut table = files::large_buffer();
+    let table_length = read_table(&rt, &mut table);
+    let mut input = rt.stdin();
     let mut script = script_buffer();
-    let script_length = io::read_full(STDIN_FILENO, &mut script);
-    if !at_end(script_length) {
+    let script_length = files::read_full(&mut input, &mut script);
+    if !at_end(&mut input, script_length) {
         return;
     }
     let mut listing = listing_buffer();
@@ -36,29 +38,22 @@ fn main() {
         &script[..script_length],
         &mut listing,
     );
-    print(answer, &listing);
+    print(&rt, answer, &listing);
 }
 
 // Whether nothing is left to read, after so many bytes; a script that fills its buffer is too long in any case.
-fn at_end(length: usize) -> bool {
+fn at_end(input: &mut impl Read, length: usize) -> bool {
     if LIMIT < length {
         return true;
     }
-    let mut next = [0u8; 1];
-    libc::read(STDIN_FILENO, &mut next) == 0
+    files::is_at_end(input)
 }
 
 // A table that is not there has no byte.
-fn read_table(table: &mut [u8]) -> usize
+fn read_table(rt: &impl Files, table: &mut [u8]) -> usize
     ensures { IsPrefixLen result table.new }
 {
-    let file = os::open_read(b"platform.fadt");
-    if file < 0 {
-        return 0;
-    }
-    let n = io::read_full(file, table);
-    libc::close(file);
-    n
+    files::read_opened(File::open(rt, "platform.fadt"), table)
 }
 
 // No more than there is.
@@ -68,11 +63,11 @@ fn within(length: usize, listing: &[u8]) -> usize
     if length <= listing.len() { length } else { 0 }
 }
 
-fn print(answer: SessionAnswer, listing: &[u8]) {
+fn print(rt: &impl Print, answer: SessionAnswer, listing: &[u8]) {
     match answer {
         SessionAnswer::Written(length) => {
             let n = within(length, listing);
-            io::write_all(STDOUT_FILENO, &listing[..n]);
+            files::say(rt, &listing[..n]);
         }
         _ => {}
     }

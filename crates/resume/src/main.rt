@@ -2,13 +2,14 @@
 #![tactic(auto)]
 
 ghost use Rattle.std.specs.Prelude.{◌≡◌, ◌+◌, length};
-ghost use Rattle.io.specs.Counts.{IsPrefixLen};
+ghost use Rattle.files.specs.Counts.{IsPrefixLen};
 ghost use Rattle.session.specs.Session.{limit};
 
-use libc::{STDIN_FILENO, STDOUT_FILENO};
 use machine::Machine;
 use saved::ReadAnswer;
 use session::{LIMIT, SessionAnswer};
+use std::fs::{File, Files};
+use std::io::Read;
 
 // One byte more than a text may have, to see that it is longer.
 fn text_buffer() -> [u8; LIMIT + 1]
@@ -24,42 +25,36 @@ fn listing_buffer() -> [u8; 330000]
     [0; 330000]
 }
 
-fn main() {
+fn main(rt: HostRuntime) {
     let mut state = text_buffer();
-    let state_length = read_state(&mut state);
+    let state_length = read_state(&rt, &mut state);
+    let mut input = rt.stdin();
     let mut steps = text_buffer();
-    let steps_length = io::read_full(STDIN_FILENO, &mut steps);
-    if !at_end(steps_length) {
+    let steps_length = files::read_full(&mut input, &mut steps);
+    if !at_end(&mut input, steps_length) {
         return;
     }
     let back = saved::read(&state[..state_length]);
     let answer = back.answer;
     match answer {
-        ReadAnswer::Done => list(back.machine, &steps[..steps_length]),
+        ReadAnswer::Done => list(&rt, back.machine, &steps[..steps_length]),
         _ => {}
     }
 }
 
 // A text that is not there is empty.
-fn read_state(state: &mut [u8]) -> usize
+fn read_state(rt: &impl Files, state: &mut [u8]) -> usize
     ensures { IsPrefixLen result state.new }
 {
-    let file = os::open_read(b"state");
-    if file < 0 {
-        return 0;
-    }
-    let n = io::read_full(file, state);
-    libc::close(file);
-    n
+    files::read_opened(File::open(rt, "state"), state)
 }
 
 // Whether nothing is left to read, after so many bytes; steps that fill their buffer are too long in any case.
-fn at_end(length: usize) -> bool {
+fn at_end(input: &mut impl Read, length: usize) -> bool {
     if LIMIT < length {
         return true;
     }
-    let mut next = [0u8; 1];
-    libc::read(STDIN_FILENO, &mut next) == 0
+    files::is_at_end(input)
 }
 
 // No more than there is.
@@ -69,17 +64,17 @@ fn within(length: usize, listing: &[u8]) -> usize
     if length <= listing.len() { length } else { 0 }
 }
 
-fn list(m: Machine, steps: &[u8]) {
+fn list(rt: &impl Print, m: Machine, steps: &[u8]) {
     let mut listing = listing_buffer();
     let answer = session::resume(m, steps, &mut listing);
-    print(answer, &listing);
+    print(rt, answer, &listing);
 }
 
-fn print(answer: SessionAnswer, listing: &[u8]) {
+fn print(rt: &impl Print, answer: SessionAnswer, listing: &[u8]) {
     match answer {
         SessionAnswer::Written(length) => {
             let n = within(length, listing);
-            io::write_all(STDOUT_FILENO, &listing[..n]);
+            files::say(rt, &listing[..n]);
         }
         _ => {}
     }

@@ -3,12 +3,13 @@
 #![tactic(auto)]
 
 ghost use Rattle.std.specs.Prelude.{◌≡◌, ◌+◌, length};
-ghost use Rattle.io.specs.Counts.{IsPrefixLen};
+ghost use Rattle.files.specs.Counts.{IsPrefixLen};
 ghost use Rattle.session.specs.Session.{limit};
 
-use libc::{STDIN_FILENO, STDOUT_FILENO};
 use saved::ReadAnswer;
 use session::{EndAnswer, Ended, LIMIT};
+use std::fs::{File, Files};
+use std::io::Read;
 
 // More than the longest saved text.
 const ROOM: usize = 1024;
@@ -20,48 +21,43 @@ fn text_buffer() -> [u8; LIMIT + 1]
     [0; LIMIT + 1]
 }
 
-fn main() {
+fn main(rt: HostRuntime) {
+    let mut input = rt.stdin();
     let mut script = text_buffer();
-    let length = io::read_full(STDIN_FILENO, &mut script);
-    if !at_end(length) {
+    let length = files::read_full(&mut input, &mut script);
+    if !at_end(&mut input, length) {
         return;
     }
-    let file = os::open_read(b"platform.fadt");
-    if file < 0 {
-        from_state(&script[..length]);
-    } else {
-        from_table(file, &script[..length]);
+    match File::open(&rt, "platform.fadt") {
+        Ok(mut file) => from_table(&rt, &mut file, &script[..length]),
+        Err(_) => from_state(&rt, &script[..length]),
     }
 }
 
 // Whether nothing is left to read, after so many bytes; a script that fills its buffer is too long in any case.
-fn at_end(length: usize) -> bool {
+fn at_end(input: &mut impl Read, length: usize) -> bool {
     if LIMIT < length {
         return true;
     }
-    let mut next = [0u8; 1];
-    libc::read(STDIN_FILENO, &mut next) == 0
+    files::is_at_end(input)
 }
 
-fn from_table(file: i32, script: &[u8]) {
-    let mut table = io::large_buffer();
-    let length = io::read_full(file, &mut table);
-    libc::close(file);
-    print(session::end(&table[..length], script));
+fn from_table(rt: &impl Print, file: &mut impl Read, script: &[u8]) {
+    let mut table = files::large_buffer();
+    let length = files::read_full(file, &mut table);
+    print(rt, session::end(&table[..length], script));
 }
 
-fn from_state(steps: &[u8]) {
-    let file = os::open_read(b"state");
-    if file < 0 {
+fn from_state(rt: &(impl Files + Print), steps: &[u8]) {
+    let Ok(mut file) = File::open(rt, "state") else {
         return;
-    }
+    };
     let mut state = text_buffer();
-    let length = io::read_full(file, &mut state);
-    libc::close(file);
+    let length = files::read_full(&mut file, &mut state);
     let back = saved::read(&state[..length]);
     let answer = back.answer;
     match answer {
-        ReadAnswer::Done => print(session::resume_end(back.machine, steps)),
+        ReadAnswer::Done => print(rt, session::resume_end(back.machine, steps)),
         _ => {}
     }
 }
@@ -73,14 +69,14 @@ fn within(length: usize, text: &[u8]) -> usize
     if length <= text.len() { length } else { 0 }
 }
 
-fn print(ended: Ended) {
+fn print(rt: &impl Print, ended: Ended) {
     let answer = ended.answer;
     match answer {
         EndAnswer::Done => {
             let mut text = [0u8; ROOM];
             let written = saved::write(ended.machine, &mut text);
             let n = within(saved::written_value(written) as usize, &text);
-            io::write_all(STDOUT_FILENO, &text[..n]);
+            files::say(rt, &text[..n]);
         }
         _ => {}
     }

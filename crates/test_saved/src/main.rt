@@ -3,9 +3,7 @@
 #![tactic(auto)]
 
 ghost use Rattle.std.specs.Prelude.{◌≡◌, length};
-ghost use Rattle.io.specs.Counts.{IsPrefixLen};
-
-use libc::{STDIN_FILENO, STDOUT_FILENO};
+ghost use Rattle.files.specs.Counts.{IsPrefixLen};
 
 const ROOM: usize = 1024;
 
@@ -32,30 +30,39 @@ fn empty() -> [u8; ROOM]
     [FILL; ROOM]
 }
 
-fn main() {
+fn main(rt: HostRuntime) {
     let mut text = empty();
-    let n = io::read_full(STDIN_FILENO, &mut text);
-    all(&text[..n]);
+    let n = files::read_full(&mut rt.stdin(), &mut text);
+    all(&rt, &text[..n]);
 }
 
-fn all(text: &[u8]) {
-    room(b"a buffer one short", text, 1);
-    room(b"a buffer exactly as long", text, 0);
-    room(b"no buffer", text, ROOM);
-    answer(b"nothing wrong", text, NEWEST, false, false);
-    answer(b"illegal", text, NEWEST, false, true);
-    answer(b"malformed", text, NEWEST, true, false);
-    answer(b"malformed and illegal", text, NEWEST, true, true);
+fn all(out: &impl Print, text: &[u8]) {
+    room(out, b"a buffer one short", text, 1);
+    room(out, b"a buffer exactly as long", text, 0);
+    room(out, b"no buffer", text, ROOM);
+    answer(out, b"nothing wrong", text, NEWEST, false, false);
+    answer(out, b"illegal", text, NEWEST, false, true);
+    answer(out, b"malformed", text, NEWEST, true, false);
+    answer(out, b"malformed and illegal", text, NEWEST, true, true);
     answer(
+        out,
         b"a record that edition 1 does not have",
         text,
         OLDER,
         false,
         false,
     );
-    answer(b"no known edition", text, UNKNOWN, false, false);
-    answer(b"no known edition, and illegal", text, UNKNOWN, false, true);
+    answer(out, b"no known edition", text, UNKNOWN, false, false);
     answer(
+        out,
+        b"no known edition, and illegal",
+        text,
+        UNKNOWN,
+        false,
+        true,
+    );
+    answer(
+        out,
         b"no known edition, malformed and illegal",
         text,
         UNKNOWN,
@@ -64,13 +71,13 @@ fn all(text: &[u8]) {
     );
 }
 
-fn line(name: &[u8], number: u8, value: u64) {
-    io::write_all(STDOUT_FILENO, name);
-    io::write_all(STDOUT_FILENO, b"\t");
-    io::print_decimal(STDOUT_FILENO, number as u64);
-    io::write_all(STDOUT_FILENO, b"\t");
-    io::print_decimal(STDOUT_FILENO, value);
-    io::write_all(STDOUT_FILENO, b"\n");
+fn line(out: &impl Print, name: &[u8], number: u8, value: u64) {
+    files::say(out, name);
+    files::say(out, b"\t");
+    files::say_decimal(out, number as u64);
+    files::say(out, b"\t");
+    files::say_decimal(out, value);
+    files::say(out, b"\n");
 }
 
 // No more than there is.
@@ -82,52 +89,53 @@ fn within(n: usize, buf: &[u8]) -> usize
 
 // The text's machine into a buffer that is so many bytes short of it, the start of a longer one; then the byte at the start, the one that would be the
 // text's last, and the one after it.
-fn room(name: &[u8], text: &[u8], short: usize) {
+fn room(out: &impl Print, name: &[u8], text: &[u8], short: usize) {
     let mut buf = empty();
-    fill(name, text, short, &mut buf);
+    fill(out, name, text, short, &mut buf);
 }
 
-fn fill(name: &[u8], text: &[u8], short: usize, buf: &mut [u8]) {
+fn fill(out: &impl Print, name: &[u8], text: &[u8], short: usize, buf: &mut [u8]) {
     let n = text.len();
     let room = within(past(n, short), buf);
-    write(name, text, &mut buf[..room]);
-    byte(b"  first", buf, 0);
-    byte(b"  last", buf, past(n, 1));
-    byte(b"  past it", buf, n);
+    write(out, name, text, &mut buf[..room]);
+    byte(out, b"  first", buf, 0);
+    byte(out, b"  last", buf, past(n, 1));
+    byte(out, b"  past it", buf, n);
 }
 
 fn past(n: usize, by: usize) -> usize {
     bits::past(n as u64, by as u64) as usize
 }
 
-fn write(name: &[u8], text: &[u8], buf: &mut [u8]) {
+fn write(out: &impl Print, name: &[u8], text: &[u8], buf: &mut [u8]) {
     let back = saved::read(text);
     let m = back.machine;
     let answer = saved::write(m, buf);
     line(
+        out,
         name,
         saved::written_number(answer),
         saved::written_value(answer),
     );
 }
 
-fn byte(name: &[u8], buf: &[u8], i: usize) {
-    io::write_all(STDOUT_FILENO, name);
+fn byte(out: &impl Print, name: &[u8], buf: &[u8], i: usize) {
+    files::say(out, name);
     if i < buf.len() {
         if buf[i] == FILL {
-            io::write_all(STDOUT_FILENO, b"\tas it was\n");
+            files::say(out, b"\tas it was\n");
         } else {
-            io::write_all(STDOUT_FILENO, b"\twritten\n");
+            files::say(out, b"\twritten\n");
         }
     }
 }
 
 // What the text is answered with this edition and these faults: a letter that is no digit; state 9.
-fn answer(name: &[u8], text: &[u8], edition: u8, malformed: bool, illegal: bool) {
+fn answer(out: &impl Print, name: &[u8], text: &[u8], edition: u8, malformed: bool, illegal: bool) {
     let mut buf = empty();
     damage(text, edition, malformed, illegal, &mut buf);
     let n = text.len();
-    read(name, n, &buf);
+    read(out, name, n, &buf);
 }
 
 fn damage(text: &[u8], edition: u8, malformed: bool, illegal: bool, buf: &mut [u8]) {
@@ -142,11 +150,12 @@ fn at(here: bool, place: usize) -> usize {
     if here { place } else { ROOM }
 }
 
-fn read(name: &[u8], n: usize, text: &[u8]) {
+fn read(out: &impl Print, name: &[u8], n: usize, text: &[u8]) {
     let k = within(n, text);
     let back = saved::read(&text[..k]);
     let answered = back.answer;
     line(
+        out,
         name,
         saved::read_number(answered),
         saved::read_value(answered),

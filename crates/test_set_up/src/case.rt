@@ -1,7 +1,6 @@
 // A case: its name and the number that setting up answers, in one line.
 use crate::fields::offset;
 use crate::numbers::number;
-use libc::STDOUT_FILENO;
 use test_tables::{COMMON, NO_STATE, ROOM, SESSION, SESSION_STATES, filled, pairs_of, summing_to};
 use text::{part, part_count, same};
 
@@ -18,19 +17,19 @@ pub struct Case {
 }
 
 // A case a line.
-pub(crate) fn all(source: &[u8]) {
+pub(crate) fn all(out: &impl Print, source: &[u8]) {
     let mut start = 0;
     while start < source.len() {
-        line(text::line_from(source, start));
+        line(out, text::line_from(source, start));
         start = text::next_line(source, start);
     }
 }
 
-fn line(words: &[u8]) {
+fn line(out: &impl Print, words: &[u8]) {
     if is_silent(words) {
         return;
     }
-    lend(part(words, b':', 0), read(part(words, b':', 1)));
+    lend(out, part(words, b':', 0), read(out, part(words, b':', 1)));
 }
 
 // An empty line, or one that begins with a slash.
@@ -39,12 +38,12 @@ fn is_silent(words: &[u8]) -> bool {
 }
 
 // The worked session, with what each word says.
-fn read(words: &[u8]) -> Case {
+fn read(out: &impl Print, words: &[u8]) -> Case {
     let n = part_count(words, b' ');
     let mut c = session();
     let mut i = 0;
     while i < n {
-        let next = with_word(c, part(words, b' ', i));
+        let next = with_word(out, c, part(words, b' ', i));
         c = next;
         i += 1;
     }
@@ -64,18 +63,18 @@ fn session() -> Case {
 }
 
 // A word is a name, = and a value.
-fn with_word(c: Case, word: &[u8]) -> Case {
+fn with_word(out: &impl Print, c: Case, word: &[u8]) -> Case {
     if word.len() == 0 {
         return c;
     }
-    with_value(c, part(word, b'=', 0), part(word, b'=', 1))
+    with_value(out, c, part(word, b'=', 0), part(word, b'=', 1))
 }
 
-fn with_value(c: Case, name: &[u8], value: &[u8]) -> Case {
+fn with_value(out: &impl Print, c: Case, name: &[u8], value: &[u8]) -> Case {
     if same(name, b"states") {
-        return with_states(c, states(value));
+        return with_states(c, states(out, value));
     }
-    let n = number(value);
+    let n = number(out, value);
     let mut d = c;
     if same(name, b"lent") {
         d.lent = n;
@@ -97,7 +96,7 @@ fn with_value(c: Case, name: &[u8], value: &[u8]) -> Case {
         d.power_override = n;
         return d;
     }
-    with_field(c, offset(name), n)
+    with_field(c, offset(out, name), n)
 }
 
 fn with_field(c: Case, offset: u32, value: u32) -> Case {
@@ -115,29 +114,29 @@ fn with_states(c: Case, states: [u16; 6]) -> Case {
 }
 
 // S0 to S5, parted by commas.
-fn states(value: &[u8]) -> [u16; 6] {
+fn states(out: &impl Print, value: &[u8]) -> [u16; 6] {
     [
-        state(part(value, b',', 0)),
-        state(part(value, b',', 1)),
-        state(part(value, b',', 2)),
-        state(part(value, b',', 3)),
-        state(part(value, b',', 4)),
-        state(part(value, b',', 5)),
+        state(out, part(value, b',', 0)),
+        state(out, part(value, b',', 1)),
+        state(out, part(value, b',', 2)),
+        state(out, part(value, b',', 3)),
+        state(out, part(value, b',', 4)),
+        state(out, part(value, b',', 5)),
     ]
 }
 
 // A pair a.b, or - for an absent state.
-fn state(value: &[u8]) -> u16 {
+fn state(out: &impl Print, value: &[u8]) -> u16 {
     if same(value, b"-") {
         return NO_STATE;
     }
-    let a = number(part(value, b'.', 0));
-    let b = number(part(value, b'.', 1));
+    let a = number(out, part(value, b'.', 0));
+    let b = number(out, part(value, b'.', 1));
     (a % 256 * 256 + b % 256) as u16
 }
 
 // The table's first bytes are lent.
-fn lend(name: &[u8], c: Case) {
+fn lend(out: &impl Print, name: &[u8], c: Case) {
     let n = c.lent as usize;
     let table = c.table;
     let states = c.states;
@@ -145,6 +144,7 @@ fn lend(name: &[u8], c: Case) {
     let bytes: &[u8] = &t;
     if n <= bytes.len() {
         answer(
+            out,
             name,
             &bytes[..n],
             (c.event_homes % 65536) as u16,
@@ -156,6 +156,7 @@ fn lend(name: &[u8], c: Case) {
 }
 
 pub(crate) fn answer(
+    out: &impl Print,
     name: &[u8],
     table: &[u8],
     event_homes: u16,
@@ -166,8 +167,8 @@ pub(crate) fn answer(
     let pairs = pairs_of(states);
     let made = machine::set_up(table, event_homes, control_homes, power_override, pairs);
     let answer = made.answer;
-    io::write_all(STDOUT_FILENO, name);
-    io::write_all(STDOUT_FILENO, b"\t");
-    io::print_decimal(STDOUT_FILENO, platform::number(answer) as u64);
-    io::write_all(STDOUT_FILENO, b"\n");
+    files::say(out, name);
+    files::say(out, b"\t");
+    files::say_decimal(out, platform::number(answer) as u64);
+    files::say(out, b"\n");
 }

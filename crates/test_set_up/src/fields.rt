@@ -3,7 +3,7 @@ use crate::numbers::number;
 use text::same;
 
 // The offset of the field; a number is itself one.
-pub(crate) fn offset(name: &[u8]) -> u32 {
+pub(crate) fn offset(out: &impl Print, name: &[u8]) -> u32 {
     if same(name, b"LENGTH") {
         return test_tables::LENGTH;
     }
@@ -64,5 +64,5 @@ pub(crate) fn offset(name: &[u8]) -> u32 {
     if same(name, b"FLAGS") {
         return test_tables::FLAGS;
     }
-    number(name)
+    number(out, name)
 }

@@ -8,11 +8,9 @@ mod fields;
 mod numbers;
 mod real_table;
 
-use libc::STDIN_FILENO;
-
-fn main() {
-    let mut source = io::large_buffer();
-    let n = io::read_full(STDIN_FILENO, &mut source);
-    case::all(&source[..n]);
-    real_table::real_table();
+fn main(rt: HostRuntime) {
+    let mut source = files::large_buffer();
+    let n = files::read_full(&mut rt.stdin(), &mut source);
+    case::all(&rt, &source[..n]);
+    real_table::real_table(&rt);
 }

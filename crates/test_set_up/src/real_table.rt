@@ -1,19 +1,35 @@
 // The table that QEMU makes for its machine type pc.
 use crate::case::answer;
+use std::fs::{File, Files};
+use std::io::{Error, Read};
 use test_tables::NO_STATE;
 
-pub(crate) fn real_table() {
-    let path = b"qemu-pc.fadt";
-    let file = os::open_read(path);
-    if file < 0 {
-        os::fail(path);
-        return;
+pub(crate) fn real_table(rt: &(impl Files + Print + Eprint + AllocGlobal)) {
+    let path = "qemu-pc.fadt";
+    match File::open(rt, path) {
+        Ok(mut file) => answers(rt, &mut file),
+        Err(error) => fail(rt, path, error),
     }
-    let mut bytes = io::buffer();
-    let n = io::read_full(file, &mut bytes);
-    libc::close(file);
+}
+
+// Says on standard error why the file does not open.
+fn fail(rt: &(impl Eprint + AllocGlobal), path: &str, error: Error) {
+    let Ok(text) = error.to_string(rt.alloc()) else {
+        return;
+    };
+    let words = match text.split_once(" (os error ") {
+        Some((words, _)) => words,
+        None => text.as_str(),
+    };
+    let _ = eprintln!(rt; "{path}: {words}");
+}
+
+fn answers(out: &impl Print, file: &mut impl Read) {
+    let mut bytes = [0u8; 4096];
+    let n = files::read_full(file, &mut bytes);
     let table = &bytes[..n];
     answer(
+        out,
         b"qemu-pc.fadt",
         table,
         0,
@@ -22,6 +38,7 @@ pub(crate) fn real_table() {
         [0x0000, NO_STATE, NO_STATE, 0x0101, 0x0202, 0x0303],
     );
     answer(
+        out,
         b"qemu-pc.fadt, S0 absent and S5 (0, 0)",
         table,
         0,
@@ -30,6 +47,7 @@ pub(crate) fn real_table() {
         [NO_STATE, NO_STATE, NO_STATE, 0x0101, 0x0202, 0x0000],
     );
     answer(
+        out,
         b"qemu-pc.fadt, S0 and S5 (0, 0)",
         table,
         0,
@@ -38,6 +56,7 @@ pub(crate) fn real_table() {
         [0x0000, NO_STATE, NO_STATE, 0x0101, 0x0202, 0x0000],
     );
     answer(
+        out,
         b"qemu-pc.fadt, event home 8",
         table,
         0x0100,

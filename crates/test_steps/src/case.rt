@@ -1,6 +1,5 @@
 // A case: a script, run from power-on.
 use crate::platforms::{power_on, session};
-use libc::STDOUT_FILENO;
 use machine::Machine;
 use model::{Answer, Step};
 use script::Line;
@@ -10,24 +9,24 @@ use text::{part, same};
 const ROOM: usize = 64;
 
 // Runs the cases, a line a step.
-pub(crate) fn all(source: &[u8]) {
+pub(crate) fn all(out: &impl Print, source: &[u8]) {
     let mut m = session();
     let mut start = 0;
     while start < source.len() {
-        let next = line(m, text::line_from(source, start));
+        let next = line(out, m, text::line_from(source, start));
         m = next;
         start = text::next_line(source, start);
     }
 }
 
-fn line(m: Machine, words: &[u8]) -> Machine {
+fn line(out: &impl Print, m: Machine, words: &[u8]) -> Machine {
     if is_silent(words) {
         return m;
     }
     if same(part(words, b' ', 0), b"platform") {
-        return power_on(part(words, b' ', 1));
+        return power_on(out, part(words, b' ', 1));
     }
-    said(m, words)
+    said(out, m, words)
 }
 
 // An empty line, or one that begins with a slash.
@@ -36,21 +35,21 @@ fn is_silent(words: &[u8]) -> bool {
 }
 
 // Writes a line and, if it says a step, does it and writes what came of it.
-fn said(m: Machine, words: &[u8]) -> Machine {
-    io::write_all(STDOUT_FILENO, words);
-    let next = heard(m, words);
-    io::write_all(STDOUT_FILENO, b"\n");
+fn said(out: &impl Print, m: Machine, words: &[u8]) -> Machine {
+    files::say(out, words);
+    let next = heard(out, m, words);
+    files::say(out, b"\n");
     next
 }
 
-fn heard(m: Machine, words: &[u8]) -> Machine {
+fn heard(out: &impl Print, m: Machine, words: &[u8]) -> Machine {
     if is_remark(words) {
         return m;
     }
     match read(words) {
-        Line::Step(s) => done(m, s),
+        Line::Step(s) => done(out, m, s),
         Line::Unread => {
-            io::write_all(STDOUT_FILENO, b"\tunread");
+            files::say(out, b"\tunread");
             m
         }
     }
@@ -80,17 +79,17 @@ fn tabbed(line: [u8; ROOM]) -> [u8; ROOM] {
     tabs
 }
 
-fn done(m: Machine, s: Step) -> Machine {
+fn done(out: &impl Print, m: Machine, s: Step) -> Machine {
     let stepped = step::step(m, s);
     let answer = stepped.answer;
     let next = stepped.machine;
-    show(answer, next);
+    show(out, answer, next);
     next
 }
 
 // A listing's line without the step's number, which is one digit here.
-fn show(answer: Answer, m: Machine) {
+fn show(out: &impl Print, answer: Answer, m: Machine) {
     let mut entry = [0; ROOM];
     listing::write_entry(&mut entry, 0, 0, answer, m);
-    io::write_all(STDOUT_FILENO, text::line_from(&entry, 1));
+    files::say(out, text::line_from(&entry, 1));
 }

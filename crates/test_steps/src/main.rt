@@ -6,14 +6,13 @@
 mod case;
 mod platforms;
 
-use libc::{STDIN_FILENO, STDOUT_FILENO};
 use listing::HEADER_LENGTH;
 
-fn main() {
+fn main(rt: HostRuntime) {
     let mut header = [0; HEADER_LENGTH];
     listing::write_header(&mut header);
-    io::write_all(STDOUT_FILENO, &header);
-    let mut source = io::large_buffer();
-    let n = io::read_full(STDIN_FILENO, &mut source);
-    case::all(&source[..n]);
+    files::say(&rt, &header);
+    let mut source = files::large_buffer();
+    let n = files::read_full(&mut rt.stdin(), &mut source);
+    case::all(&rt, &source[..n]);
 }

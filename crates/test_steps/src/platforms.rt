@@ -1,5 +1,4 @@
 // The platforms that the cases start from.
-use libc::STDOUT_FILENO;
 use machine::Machine;
 use test_tables::{
     COMMON, FLAGS, GPE0_BLK, GPE0_BLK_LEN, GPE1_BASE, GPE1_BLK, GPE1_BLK_LEN, NO_STATE, PM_TMR_BLK,
@@ -38,7 +37,7 @@ const BARE: [[u32; 2]; 3] = [
     [FLAGS, 0x0070],
 ];
 
-pub(crate) fn power_on(name: &[u8]) -> Machine {
+pub(crate) fn power_on(out: &impl Print, name: &[u8]) -> Machine {
     if same(name, b"full") {
         return full();
     }
@@ -49,7 +48,7 @@ pub(crate) fn power_on(name: &[u8]) -> Machine {
         return bare();
     }
     if !same(name, b"session") {
-        io::write_all(STDOUT_FILENO, b"unread\n");
+        files::say(out, b"unread\n");
     }
     session()
 }

@@ -14,28 +14,28 @@ fn last(b: Block) -> u64 {
     wrapping_sub_u64(wrapping_add_u64(b.address, length(b)), 1)
 }
 
-fn name(i: usize) {
+fn name(out: &impl Print, i: usize) {
     match i {
-        0 => say(b"SMI_CMD"),
-        1 => say(b"PM1a_EVT_BLK"),
-        2 => say(b"PM1b_EVT_BLK"),
-        3 => say(b"PM1a_CNT_BLK"),
-        4 => say(b"PM1b_CNT_BLK"),
-        5 => say(b"PM2_CNT_BLK"),
-        6 => say(b"PM_TMR_BLK"),
-        7 => say(b"GPE0_BLK"),
-        _ => say(b"GPE1_BLK"),
+        0 => say(out, b"SMI_CMD"),
+        1 => say(out, b"PM1a_EVT_BLK"),
+        2 => say(out, b"PM1b_EVT_BLK"),
+        3 => say(out, b"PM1a_CNT_BLK"),
+        4 => say(out, b"PM1b_CNT_BLK"),
+        5 => say(out, b"PM2_CNT_BLK"),
+        6 => say(out, b"PM_TMR_BLK"),
+        7 => say(out, b"GPE0_BLK"),
+        _ => say(out, b"GPE1_BLK"),
     }
 }
 
-fn length_name(i: usize) {
+fn length_name(out: &impl Print, i: usize) {
     match i {
-        1 | 2 => say(b"PM1_EVT_LEN"),
-        3 | 4 => say(b"PM1_CNT_LEN"),
-        5 => say(b"PM2_CNT_LEN"),
-        6 => say(b"PM_TMR_LEN"),
-        7 => say(b"GPE0_BLK_LEN"),
-        _ => say(b"GPE1_BLK_LEN"),
+        1 | 2 => say(out, b"PM1_EVT_LEN"),
+        3 | 4 => say(out, b"PM1_CNT_LEN"),
+        5 => say(out, b"PM2_CNT_LEN"),
+        6 => say(out, b"PM_TMR_LEN"),
+        7 => say(out, b"GPE0_BLK_LEN"),
+        _ => say(out, b"GPE1_BLK_LEN"),
     }
 }
 
@@ -63,10 +63,10 @@ fn length_is_wrong(i: usize, b: Block) -> bool {
 }
 
 // Lines 6, 7 and 8: says the first block that the line fails for, and why; whether there is one.
-pub(crate) fn first_wrong(line: u8, blocks: [Block; BLOCKS]) -> bool {
+pub(crate) fn first_wrong(out: &impl Print, line: u8, blocks: [Block; BLOCKS]) -> bool {
     let mut i = 0;
     while i < BLOCKS {
-        if wrong(line, i, blocks[i], blocks) {
+        if wrong(out, line, i, blocks[i], blocks) {
             return true;
         }
         i += 1;
@@ -75,36 +75,36 @@ pub(crate) fn first_wrong(line: u8, blocks: [Block; BLOCKS]) -> bool {
 }
 
 // Whether the line fails for block i, which is then said.
-fn wrong(line: u8, i: usize, b: Block, blocks: [Block; BLOCKS]) -> bool {
+fn wrong(out: &impl Print, line: u8, i: usize, b: Block, blocks: [Block; BLOCKS]) -> bool {
     match line {
-        6 => tell_length(i, b),
-        7 => tell_place(i, b),
-        _ => tell_overlap(i, b, blocks),
+        6 => tell_length(out, i, b),
+        7 => tell_place(out, i, b),
+        _ => tell_overlap(out, i, b, blocks),
     }
 }
 
-fn tell_length(i: usize, b: Block) -> bool {
+fn tell_length(out: &impl Print, i: usize, b: Block) -> bool {
     if !length_is_wrong(i, b) {
         return false;
     }
-    name(i);
-    say(b" is ");
-    port(b.address);
-    say(b" and ");
-    length_name(i);
-    say(b" is ");
-    count(length(b));
+    name(out, i);
+    say(out, b" is ");
+    port(out, b.address);
+    say(out, b" and ");
+    length_name(out, i);
+    say(out, b" is ");
+    count(out, length(b));
     if 7 <= i {
-        say(b" (an even number from 2 to ");
-        count(LONGEST);
+        say(out, b" (an even number from 2 to ");
+        count(out, LONGEST);
     } else {
-        say(b" (");
-        count(due_length(i));
+        say(out, b" (");
+        count(out, due_length(i));
     }
     if 5 <= i {
-        say(b" is allowed, or both zero)");
+        say(out, b" is allowed, or both zero)");
     } else {
-        say(b" is allowed)");
+        say(out, b" is allowed)");
     }
     true
 }
@@ -124,50 +124,50 @@ fn passes(b: Block) -> bool {
     PORTS - b.address < length(b)
 }
 
-fn tell_place(i: usize, b: Block) -> bool {
+fn tell_place(out: &impl Print, i: usize, b: Block) -> bool {
     if ((i == 1) | (i == 3)) & !is_present(b) {
-        name(i);
-        say(b" is 0, and this block has to be there");
+        name(out, i);
+        say(out, b" is 0, and this block has to be there");
         return true;
     }
     if misaligned(i, b.address) {
-        name(i);
-        say(b" is ");
-        port(b.address);
-        say(b", no multiple of ");
-        count(due_length(i));
+        name(out, i);
+        say(out, b" is ");
+        port(out, b.address);
+        say(out, b", no multiple of ");
+        count(out, due_length(i));
         return true;
     }
     if passes(b) {
-        named_ports(i, b);
-        say(b", and the last port is FFFF");
+        named_ports(out, i, b);
+        say(out, b", and the last port is FFFF");
         return true;
     }
     false
 }
 
 // A present block and its ports.
-fn named_ports(i: usize, b: Block) {
-    name(i);
-    say(b" has ");
+fn named_ports(out: &impl Print, i: usize, b: Block) {
+    name(out, i);
+    say(out, b" has ");
     if length(b) < 2 {
-        say(b"port ");
-        port(b.address);
+        say(out, b"port ");
+        port(out, b.address);
     } else {
-        say(b"ports ");
-        port(b.address);
-        say(b" to ");
-        port(last(b));
+        say(out, b"ports ");
+        port(out, b.address);
+        say(out, b" to ");
+        port(out, last(b));
     }
 }
 
 // With a later block.
-fn tell_overlap(i: usize, a: Block, blocks: [Block; BLOCKS]) -> bool {
+fn tell_overlap(out: &impl Print, i: usize, a: Block, blocks: [Block; BLOCKS]) -> bool {
     let mut j = 0;
     while j < BLOCKS {
         let b = blocks[j];
         if (i < j) & share(a, b) {
-            tell_two(i, a, j, b);
+            tell_two(out, i, a, j, b);
             return true;
         }
         j += 1;
@@ -175,11 +175,11 @@ fn tell_overlap(i: usize, a: Block, blocks: [Block; BLOCKS]) -> bool {
     false
 }
 
-fn tell_two(i: usize, a: Block, j: usize, b: Block) {
-    named_ports(i, a);
-    say(b", and ");
-    named_ports(j, b);
-    say(b": they overlap");
+fn tell_two(out: &impl Print, i: usize, a: Block, j: usize, b: Block) {
+    named_ports(out, i, a);
+    say(out, b", and ");
+    named_ports(out, j, b);
+    say(out, b": they overlap");
 }
 
 fn share(a: Block, b: Block) -> bool {
@@ -187,20 +187,20 @@ fn share(a: Block, b: Block) -> bool {
 }
 
 // Line 9, of a GPE1 that is present.
-pub(crate) fn wrong_numbers(base: u8, gpe0: Block, gpe1: Block) {
+pub(crate) fn wrong_numbers(out: &impl Print, base: u8, gpe0: Block, gpe1: Block) {
     let first = wide(base);
     let before = platform::event_count(gpe0);
     let past = wrapping_add_u64(first, platform::event_count(gpe1));
     if first < before {
-        say(b"GPE1_BASE is ");
-        port(first);
-        say(b", and GPE0 has events 0 to ");
-        port(wrapping_sub_u64(before, 1));
+        say(out, b"GPE1_BASE is ");
+        port(out, first);
+        say(out, b", and GPE0 has events 0 to ");
+        port(out, wrapping_sub_u64(before, 1));
     } else {
-        say(b"GPE1 has events ");
-        port(first);
-        say(b" to ");
-        port(wrapping_sub_u64(past, 1));
-        say(b", and the last event is FF");
+        say(out, b"GPE1 has events ");
+        port(out, first);
+        say(out, b" to ");
+        port(out, wrapping_sub_u64(past, 1));
+        say(out, b", and the last event is FF");
     }
 }

@@ -30,88 +30,109 @@ fn line_start(source: &[u8], line: usize) -> usize {
     start
 }
 
-pub(crate) fn platform_unread(source: &[u8]) {
-    say(b"line 1");
-    if general(source, 0) {
+pub(crate) fn platform_unread(out: &impl Print, source: &[u8]) {
+    say(out, b"line 1");
+    if general(out, source, 0) {
         return;
     }
     let line = line_from(source, 0);
     if same(field(line, 0), b"platform") {
         against(
+            out,
             line,
             b"platform EVENT_HOMES CONTROL_HOMES OVERRIDE S0 S1 S2 S3 S4 S5",
         );
         return;
     }
-    say(b", field 1: ");
-    shown(field(line, 0));
-    say(b" stands where platform is due (the first line is the platform line)\n");
+    say(out, b", field 1: ");
+    shown(out, field(line, 0));
+    say(
+        out,
+        b" stands where platform is due (the first line is the platform line)\n",
+    );
 }
 
 // after_platform: the script has a platform line, its first.
-pub(crate) fn step_unread(source: &[u8], line: usize, after_platform: bool) {
-    say(b"line ");
-    count(line as u64);
+pub(crate) fn step_unread(out: &impl Print, source: &[u8], line: usize, after_platform: bool) {
+    say(out, b"line ");
+    count(out, line as u64);
     let start = line_start(source, line);
-    if general(source, start) {
+    if general(out, source, start) {
         return;
     }
     let bytes = line_from(source, start);
     if same(field(bytes, 0), b"platform") {
         if after_platform {
-            say(b", field 1: a second platform line (only the first line is one)\n");
+            say(
+                out,
+                b", field 1: a second platform line (only the first line is one)\n",
+            );
         } else {
-            say(b", field 1: a platform line (steps that go on from a saved text have none)\n");
+            say(
+                out,
+                b", field 1: a platform line (steps that go on from a saved text have none)\n",
+            );
         }
         return;
     }
     step(
+        out,
         bytes,
         b"r PORT WIDTH\nw PORT WIDTH DATA\npress\nrelease\nsleep\nalarm\npin LEVEL\nmaster\nunlock\nevent N\ntick N\ntake\ndrop",
     );
 }
 
 // What keeps any line from reading; whether something of that kind was found, and said.
-fn general(source: &[u8], start: usize) -> bool {
+fn general(out: &impl Print, source: &[u8], start: usize) -> bool {
     let line = line_from(source, start);
     if LIMIT < next_line(source, start) {
-        say(b": it passes byte 65,536, where a script ends at the latest\n");
+        say(
+            out,
+            b": it passes byte 65,536, where a script ends at the latest\n",
+        );
         return true;
     }
     if source.len() == 0 {
-        say(b": the script is empty\n");
+        say(out, b": the script is empty\n");
         return true;
     }
     if line.len() == 0 {
-        say(b": it is empty\n");
+        say(out, b": it is empty\n");
         return true;
     }
     if begins(line, b"\xEF\xBB\xBF") {
         say(
+            out,
             b": a byte order mark stands at its start (sed -i '1s/^\\xEF\\xBB\\xBF//' FILE takes it out)\n",
         );
         return true;
     }
     let first = byte(line, 0);
     if (first == HASH) | (first == SLASH) | (first == SEMICOLON) {
-        say(b": it begins with ");
-        shown(&[first]);
-        say(b" (a script has no comments)\n");
+        say(out, b": it begins with ");
+        shown(out, &[first]);
+        say(out, b" (a script has no comments)\n");
         return true;
     }
     if first == TAB {
-        say(b", field 1: it is empty (a tab stands at the line's start)\n");
+        say(
+            out,
+            b", field 1: it is empty (a tab stands at the line's start)\n",
+        );
         return true;
     }
     if ends_in_cr(line) {
-        say(b": CR stands at its end (sed -i 's/\\r$//' FILE takes it out of every line)\n");
+        say(
+            out,
+            b": CR stands at its end (sed -i 's/\\r$//' FILE takes it out of every line)\n",
+        );
         return true;
     }
     let at = first_odd(line);
     if at < line.len() {
-        say(b", field ");
-        count(part_count(front(line, at), TAB) as u64);
-        odd(byte(line, at));
+        say(out, b", field ");
+        count(out, part_count(front(line, at), TAB) as u64);
+        odd(out, byte(line, at));
         return true;
     }
     false
@@ -147,18 +168,18 @@ fn first_odd(line: &[u8]) -> usize {
     i
 }
 
-fn odd(byte: u8) {
+fn odd(out: &impl Print, byte: u8) {
     if byte == SPACE {
-        say(b": a space stands in it (one tab parts two fields)\n");
+        say(out, b": a space stands in it (one tab parts two fields)\n");
         return;
     }
     if byte == CR {
-        say(b": CR stands in it (lines end in LF)\n");
+        say(out, b": CR stands in it (lines end in LF)\n");
         return;
     }
-    say(b": the byte ");
-    hex(wide(byte), 2);
-    say(b" stands in it (a script is ASCII text)\n");
+    say(out, b": the byte ");
+    hex(out, wide(byte), 2);
+    say(out, b" stands in it (a script is ASCII text)\n");
 }
 
 // A step that is a word alone, also one that the forms do not have.
@@ -171,39 +192,42 @@ fn stands_alone(word: &[u8]) -> bool {
 }
 
 // The forms are lines, each with its fields parted by spaces.
-fn step(line: &[u8], forms: &[u8]) {
+fn step(out: &impl Print, line: &[u8], forms: &[u8]) {
     let word = field(line, 0);
     let near = part(forms, LF, nearest(forms, word));
     let known = part(near, SPACE, 0);
     if same(known, word) {
-        against(line, near);
+        against(out, line, near);
         return;
     }
     if stands_alone(word) {
-        against(line, word);
+        against(out, line, word);
         return;
     }
-    say(b", field 1: ");
-    shown(word);
-    say(b" is no word");
+    say(out, b", field 1: ");
+    shown(out, word);
+    say(out, b" is no word");
     if same(word, b"read") {
-        say(b" (write r)\n");
+        say(out, b" (write r)\n");
         return;
     }
     if same(word, b"write") {
-        say(b" (write w)\n");
+        say(out, b" (write w)\n");
         return;
     }
     if same(word, b"wake") {
-        say(b" (the wake pin is a level: write pin and 1, or pin and 0, with a tab between)\n");
+        say(
+            out,
+            b" (the wake pin is a level: write pin and 1, or pin and 0, with a tab between)\n",
+        );
         return;
     }
     if 0 < known.len() {
-        say(b" (the nearest is ");
-        say(known);
-        say(b")");
+        say(out, b" (the nearest is ");
+        say(out, known);
+        say(out, b")");
     }
-    say(b"\n");
+    say(out, b"\n");
 }
 
 // The first field that a form asks for and the line does not have, missing or other than it is to be; their number where there is none.
@@ -224,38 +248,38 @@ fn first_wrong(line: &[u8], form: &[u8]) -> usize {
 }
 
 // The line's word is the form's.
-fn against(line: &[u8], form: &[u8]) {
+fn against(out: &impl Print, line: &[u8], form: &[u8]) {
     let due = part_count(form, SPACE);
     let there = field_count(line);
     let n = first_wrong(line, form);
     if n < due {
         if there <= n {
-            say(b": ");
-            say(part(form, SPACE, n));
-            say(b" is missing (");
-            say(form);
-            say(b")\n");
+            say(out, b": ");
+            say(out, part(form, SPACE, n));
+            say(out, b" is missing (");
+            say(out, form);
+            say(out, b")\n");
             return;
         }
-        say(b", field ");
-        field_number(n);
-        say(b": ");
-        value_wrong(part(form, SPACE, n), field(line, n));
+        say(out, b", field ");
+        field_number(out, n);
+        say(out, b": ");
+        value_wrong(out, part(form, SPACE, n), field(line, n));
         return;
     }
     if due < there {
-        say(b", field ");
-        field_number(due);
+        say(out, b", field ");
+        field_number(out, due);
         if field(line, due).len() == 0 {
-            say(b": it is empty (a tab too many)\n");
+            say(out, b": it is empty (a tab too many)\n");
             return;
         }
-        say(b": a field too many (");
-        say(form);
-        say(b")\n");
+        say(out, b": a field too many (");
+        say(out, form);
+        say(out, b")\n");
         return;
     }
-    say(b" does not read\n");
+    say(out, b" does not read\n");
 }
 
 // The largest number that a field takes, by its name.
@@ -295,72 +319,75 @@ fn value_reads(name: &[u8], value: &[u8]) -> bool {
     is_hex(value) & (hex_value(value) <= largest(name))
 }
 
-fn value_wrong(name: &[u8], value: &[u8]) {
+fn value_wrong(out: &impl Print, name: &[u8], value: &[u8]) {
     if value.len() == 0 {
-        say(name);
-        say(b" is empty (one tab parts two fields)\n");
+        say(out, name);
+        say(out, b" is empty (one tab parts two fields)\n");
         return;
     }
-    shown(value);
+    shown(out, value);
     if is_flag(name) {
-        say(b" is no ");
-        say(name);
-        say(b" (write 0 or 1)\n");
+        say(out, b" is no ");
+        say(out, name);
+        say(out, b" (write 0 or 1)\n");
         return;
     }
     if is_state(name) {
-        say(b" is no ");
-        say(name);
-        say(b" (write - or two hex digits, the SLP_TYP of block A and of block B)\n");
+        say(out, b" is no ");
+        say(out, name);
+        say(
+            out,
+            b" (write - or two hex digits, the SLP_TYP of block A and of block B)\n",
+        );
         return;
     }
     if is_hex(value) {
-        say(b" does not fit ");
-        say(name);
-        say(b" (at most ");
-        say_largest(largest(name));
-        say(b")\n");
+        say(out, b" does not fit ");
+        say(out, name);
+        say(out, b" (at most ");
+        say_largest(out, largest(name));
+        say(out, b")\n");
         return;
     }
-    no_number(value);
+    no_number(out, value);
 }
 
-fn say_largest(n: u64) {
+fn say_largest(out: &impl Print, n: u64) {
     if n == 0xFFFF {
-        say(b"FFFF");
+        say(out, b"FFFF");
     } else {
-        hex(n, 8);
+        hex(out, n, 8);
     }
 }
 
-fn no_number(value: &[u8]) {
+fn no_number(out: &impl Print, value: &[u8]) {
     let at = first_no_digit(value);
     if value.len() <= at {
-        say(b" has ");
-        count(value.len() as u64);
-        say(b" digits (a number has 16 at most)\n");
+        say(out, b" has ");
+        count(out, value.len() as u64);
+        say(out, b" digits (a number has 16 at most)\n");
         return;
     }
-    say(b" is no hex number");
+    say(out, b" is no hex number");
     if begins(value, b"0x") | begins(value, b"0X") {
-        instead(line_from(value, 2));
+        instead(out, line_from(value, 2));
     } else if same(line_from(value, at), b"h") | same(line_from(value, at), b"H") {
-        instead(front(value, at));
+        instead(out, front(value, at));
     } else {
-        say(b" (");
-        shown(&[byte(value, at)]);
-        say(b" is no hex digit)\n");
+        say(out, b" (");
+        shown(out, &[byte(value, at)]);
+        say(out, b" is no hex digit)\n");
     }
 }
 
 // What to write, where it is a number.
-fn instead(digits: &[u8]) {
+fn instead(out: &impl Print, digits: &[u8]) {
     if is_hex(digits) {
-        say(b" (write ");
-        say(digits);
-        say(b")");
+        say(out, b" (write ");
+        say(out, digits);
+        say(out, b")");
     }
-    say(b"\n");
+    say(out, b"\n");
 }
 
 // The first byte that is no hex digit; the length where there is none.

@@ -15,9 +15,9 @@ mod words;
 ghost use Rattle.std.specs.Prelude.{◌≡◌, ◌+◌, length};
 ghost use Rattle.session.specs.Session.{limit};
 
-use libc::STDIN_FILENO;
-use say::{count, say};
 use session::{LIMIT, SessionAnswer};
+use std::fs::{File, Files};
+use std::io::Read;
 
 // One byte more than a script may have, to see that it is longer.
 fn script_buffer() -> [u8; LIMIT + 1]
@@ -26,79 +26,75 @@ fn script_buffer() -> [u8; LIMIT + 1]
     [0; LIMIT + 1]
 }
 
-fn main() {
-    let file = os::open_read(b"platform.fadt");
-    if file < 0 {
-        without_table();
+fn main(rt: HostRuntime) {
+    let mut input = rt.stdin();
+    let Ok(mut file) = File::open(&rt, "platform.fadt") else {
+        without_table(&rt, &mut input);
         return;
-    }
-    let mut table = io::large_buffer();
-    let table_length = io::read_full(file, &mut table);
-    libc::close(file);
+    };
+    let mut table = files::large_buffer();
+    let table_length = files::read_full(&mut file, &mut table);
     let mut script = script_buffer();
-    let script_length = io::read_full(STDIN_FILENO, &mut script);
-    if !at_end(script_length) {
-        say(b"the script cannot be read to its end\n");
+    let script_length = files::read_full(&mut input, &mut script);
+    if !at_end(&mut input, script_length) {
+        say::say(&rt, b"the script cannot be read to its end\n");
         return;
     }
     let source = &script[..script_length];
     // Room is judged last: no room for the listing means that all of it reads.
     let mut listing = [0u8; 1];
     let answer = session::session(&table[..table_length], source, &mut listing);
-    tell(answer, &table[..table_length], source);
+    tell(&rt, answer, &table[..table_length], source);
 }
 
-fn without_table() {
-    let file = os::open_read(b"state");
-    if file < 0 {
-        say(b"the file platform.fadt does not open\n");
+fn without_table(rt: &(impl Files + Print), input: &mut impl Read) {
+    let Ok(mut file) = File::open(rt, "state") else {
+        say::say(rt, b"the file platform.fadt does not open\n");
         return;
-    }
+    };
     let mut text = script_buffer();
-    let text_length = io::read_full(file, &mut text);
-    libc::close(file);
+    let text_length = files::read_full(&mut file, &mut text);
     let mut steps = script_buffer();
-    let steps_length = io::read_full(STDIN_FILENO, &mut steps);
-    if !at_end(steps_length) {
-        say(b"the steps cannot be read to their end\n");
+    let steps_length = files::read_full(input, &mut steps);
+    if !at_end(input, steps_length) {
+        say::say(rt, b"the steps cannot be read to their end\n");
         return;
     }
-    state::tell(&text[..text_length], &steps[..steps_length]);
+    state::tell(rt, &text[..text_length], &steps[..steps_length]);
 }
 
 // Whether nothing is left to read, after so many bytes; a script that fills its buffer is too long in any case.
-fn at_end(length: usize) -> bool {
+fn at_end(input: &mut impl Read, length: usize) -> bool {
     if LIMIT < length {
         return true;
     }
-    let mut next = [0u8; 1];
-    libc::read(STDIN_FILENO, &mut next) == 0
+    files::is_at_end(input)
 }
 
-fn tell(answer: SessionAnswer, table: &[u8], source: &[u8]) {
+fn tell(out: &impl Print, answer: SessionAnswer, table: &[u8], source: &[u8]) {
     match answer {
-        SessionAnswer::Written(_) => all_is_well(source),
-        SessionAnswer::NoRoom => all_is_well(source),
-        SessionAnswer::PlatformLine => line::platform_unread(source),
+        SessionAnswer::Written(_) => all_is_well(out, source),
+        SessionAnswer::NoRoom => all_is_well(out, source),
+        SessionAnswer::PlatformLine => line::platform_unread(out, source),
         SessionAnswer::SetUp(refusal) => {
-            say(b"setting up is refused: ");
-            count(platform::refusal_number(refusal) as u64);
-            say(b", ");
-            table::closer(refusal, table, text::line_from(source, 0));
+            say::say(out, b"setting up is refused: ");
+            say::count(out, platform::refusal_number(refusal) as u64);
+            say::say(out, b", ");
+            table::closer(out, refusal, table, text::line_from(source, 0));
         }
-        SessionAnswer::Line(line) => line::step_unread(source, line, true),
+        SessionAnswer::Line(line) => line::step_unread(out, source, line, true),
     }
 }
 
 // All lines but the platform line are steps.
-fn all_is_well(source: &[u8]) {
+fn all_is_well(out: &impl Print, source: &[u8]) {
     let lines = text::line_count(source);
     let steps = if 0 < lines { lines - 1 } else { 0 };
-    say(b"all is well: ");
-    count(steps as u64);
+    say::say(out, b"all is well: ");
+    say::count(out, steps as u64);
     if steps == 1 {
-        say(b" step\n");
+        say::say(out, b" step\n");
     } else {
-        say(b" steps\n");
+        say::say(out, b" steps\n");
     }
 }

@@ -1,18 +1,17 @@
 // Words and numbers on standard output, and bytes of a text.
-ghost use Rattle.io.specs.Counts.{IsPrefixLen};
+ghost use Rattle.files.specs.Counts.{IsPrefixLen};
 
-use libc::STDOUT_FILENO;
 use std::num::wrapping_add_u64;
 
 // No more of a text is shown.
 const MOST: usize = 40;
 
-pub(crate) fn say(text: &[u8]) {
-    io::write_all(STDOUT_FILENO, text);
+pub(crate) fn say(out: &impl Print, text: &[u8]) {
+    files::say(out, text);
 }
 
-pub(crate) fn count(n: u64) {
-    io::print_decimal(STDOUT_FILENO, n);
+pub(crate) fn count(out: &impl Print, n: u64) {
+    files::say_decimal(out, n);
 }
 
 // No more than there is.
@@ -38,20 +37,20 @@ pub(crate) fn wide(x: u8) -> u64 {
 }
 
 // A field's number, counted from 1.
-pub(crate) fn field_number(n: usize) {
-    count(wrapping_add_u64(n as u64, 1));
+pub(crate) fn field_number(out: &impl Print, n: usize) {
+    count(out, wrapping_add_u64(n as u64, 1));
 }
 
 // The last `width` hex digits, at most 16.
-pub(crate) fn hex(n: u64, width: usize) {
+pub(crate) fn hex(out: &impl Print, n: u64, width: usize) {
     let mut digits = [0u8; 16];
     text::write_hex(&mut digits, 0, n, width);
     let k = within(width, &digits);
-    say(&digits[..k]);
+    say(out, &digits[..k]);
 }
 
 // As few digits as show a port, or what an address of 32 bits and a length add up to.
-pub(crate) fn port(n: u64) {
+pub(crate) fn port(out: &impl Print, n: u64) {
     let width = if n < 0x10 {
         1
     } else if n < 0x100 {
@@ -67,27 +66,27 @@ pub(crate) fn port(n: u64) {
     } else {
         16
     };
-    hex(n, width);
+    hex(out, n, width);
 }
 
 // A text as it stands, cut where it is long; a byte that is no printable character by its number.
-pub(crate) fn shown(text: &[u8]) {
+pub(crate) fn shown(out: &impl Print, text: &[u8]) {
     let mut i = 0;
     while i < text.len() {
         if MOST <= i {
-            say(b"..");
+            say(out, b"..");
             return;
         }
-        glyph(byte(text, i));
+        glyph(out, byte(text, i));
         i += 1;
     }
 }
 
-fn glyph(byte: u8) {
+fn glyph(out: &impl Print, byte: u8) {
     if (32 <= byte) & (byte < 127) {
-        say(&[byte]);
+        say(out, &[byte]);
     } else {
-        say(b"\\x");
-        hex(wide(byte), 2);
+        say(out, b"\\x");
+        hex(out, wide(byte), 2);
     }
 }

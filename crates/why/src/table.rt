@@ -14,7 +14,7 @@ const EVENT_BITS: u16 = 0xC731;
 const CONTROL_BITS: u16 = 0x0007;
 
 // The line's own words stand where the closer look finds nothing, or needs them.
-pub(crate) fn closer(refusal: SetUpRefusal, table: &[u8], line: &[u8]) {
+pub(crate) fn closer(out: &impl Print, refusal: SetUpRefusal, table: &[u8], line: &[u8]) {
     let settings = fadt::settings(
         table,
         script::event_homes(line),
@@ -24,59 +24,59 @@ pub(crate) fn closer(refusal: SetUpRefusal, table: &[u8], line: &[u8]) {
     );
     let number = platform::refusal_number(refusal);
     if number < 6 {
-        words::refusal(refusal);
-        no_table(table, number);
-    } else if !in_settings(number, settings, script::pairs(line)) {
-        words::refusal(refusal);
+        words::refusal(out, refusal);
+        no_table(out, table, number);
+    } else if !in_settings(out, number, settings, script::pairs(line)) {
+        words::refusal(out, refusal);
     }
-    say(b"\n");
+    say(out, b"\n");
 }
 
 // Whether something was found, and said.
-fn in_settings(number: u8, s: Settings, pairs: [[u8; 2]; 6]) -> bool {
+fn in_settings(out: &impl Print, number: u8, s: Settings, pairs: [[u8; 2]; 6]) -> bool {
     match number {
         9 => {
             let gpe0 = s.gpe0;
             let gpe1 = s.gpe1;
-            blocks::wrong_numbers(s.gpe1_base, gpe0, gpe1);
+            blocks::wrong_numbers(out, s.gpe1_base, gpe0, gpe1);
             true
         }
         10 => {
-            say(b"ACPI_ENABLE and ACPI_DISABLE are both ");
-            hex(wide(s.acpi_enable), 2);
+            say(out, b"ACPI_ENABLE and ACPI_DISABLE are both ");
+            hex(out, wide(s.acpi_enable), 2);
             true
         }
-        11 => homes(s),
+        11 => homes(out, s),
         12 => {
             let cnt_b = s.pm1b_cnt;
-            wrong_pairs(pairs, is_present(cnt_b))
+            wrong_pairs(out, pairs, is_present(cnt_b))
         }
-        _ => blocks::first_wrong(number, platform::blocks(s)),
+        _ => blocks::first_wrong(out, number, platform::blocks(s)),
     }
 }
 
 // Lines 1 to 4; line 5 needs no more words.
-fn no_table(table: &[u8], number: u8) {
+fn no_table(out: &impl Print, table: &[u8], number: u8) {
     if (number < 5) & is_text(table) {
-        say(b": platform.fadt is text, and a table is binary");
+        say(out, b": platform.fadt is text, and a table is binary");
         return;
     }
     match number {
         1 => {
-            say(b": platform.fadt has ");
-            count(table.len() as u64);
+            say(out, b": platform.fadt has ");
+            count(out, table.len() as u64);
         }
         2 => {
-            say(b": they are ");
-            shown(front(table, 4));
+            say(out, b": they are ");
+            shown(out, front(table, 4));
         }
         3 => {
-            say(b": the field is ");
-            count(table_length(table) as u64);
-            say(b", and platform.fadt has ");
-            count(table.len() as u64);
+            say(out, b": the field is ");
+            count(out, table_length(table) as u64);
+            say(out, b", and platform.fadt has ");
+            count(out, table.len() as u64);
         }
-        4 => sum(table),
+        4 => sum(out, table),
         _ => {}
     }
 }
@@ -106,17 +106,17 @@ fn added(bytes: &[u8]) -> u8 {
     total
 }
 
-fn sum(table: &[u8]) {
+fn sum(out: &impl Print, table: &[u8]) {
     let n = table_length(table) as usize;
     let total = added(front(table, n));
     let checksum = byte(table, CHECKSUM);
-    say(b": they sum to ");
-    hex(wide(total), 2);
-    say(b" (byte 9, the checksum, is ");
-    hex(wide(checksum), 2);
-    say(b", and ");
-    hex(wide(wrapping_sub_u8(checksum, total)), 2);
-    say(b" would be right)");
+    say(out, b": they sum to ");
+    hex(out, wide(total), 2);
+    say(out, b" (byte 9, the checksum, is ");
+    hex(out, wide(checksum), 2);
+    say(out, b", and ");
+    hex(out, wide(wrapping_sub_u8(checksum, total)), 2);
+    say(out, b" would be right)");
 }
 
 // Nothing but printable characters, tabs and line ends, and at least one.
@@ -136,29 +136,29 @@ fn is_letter(byte: u8) -> bool {
 }
 
 // Line 11.
-fn homes(s: Settings) -> bool {
+fn homes(out: &impl Print, s: Settings) -> bool {
     let evt_b = s.pm1b_evt;
     let cnt_b = s.pm1b_cnt;
     if outside(EVENT_BITS, s.event_homes) != 0 {
-        say(b"EVENT_HOMES is ");
-        strays(EVENT_BITS, s.event_homes);
+        say(out, b"EVENT_HOMES is ");
+        strays(out, EVENT_BITS, s.event_homes);
         return true;
     }
     if outside(CONTROL_BITS, s.control_homes) != 0 {
-        say(b"CONTROL_HOMES is ");
-        strays(CONTROL_BITS, s.control_homes);
+        say(out, b"CONTROL_HOMES is ");
+        strays(out, CONTROL_BITS, s.control_homes);
         return true;
     }
     if !is_present(evt_b) & (s.event_homes != 0) {
-        say(b"EVENT_HOMES is ");
-        mask(s.event_homes);
-        say(b", and without PM1b_EVT_BLK it is 0");
+        say(out, b"EVENT_HOMES is ");
+        mask(out, s.event_homes);
+        say(out, b", and without PM1b_EVT_BLK it is 0");
         return true;
     }
     if !is_present(cnt_b) & (s.control_homes != 0) {
-        say(b"CONTROL_HOMES is ");
-        mask(s.control_homes);
-        say(b", and without PM1b_CNT_BLK it is 0");
+        say(out, b"CONTROL_HOMES is ");
+        mask(out, s.control_homes);
+        say(out, b", and without PM1b_CNT_BLK it is 0");
         return true;
     }
     false
@@ -168,41 +168,44 @@ fn outside(known: u16, homes: u16) -> u16 {
     bits::clear16(homes, known, 0xFFFF)
 }
 
-fn mask(bits: u16) {
-    hex(bits as u64, 4);
+fn mask(out: &impl Print, bits: u16) {
+    hex(out, bits as u64, 4);
 }
 
-fn strays(known: u16, homes: u16) {
-    mask(homes);
-    say(b", and ");
-    mask(outside(known, homes));
-    say(b" of it is outside ");
-    mask(known);
+fn strays(out: &impl Print, known: u16, homes: u16) {
+    mask(out, homes);
+    say(out, b", and ");
+    mask(out, outside(known, homes));
+    say(out, b" of it is outside ");
+    mask(out, known);
 }
 
 // Line 12: the first state that has a number above 7, or else the first two that share theirs.
-fn wrong_pairs(pairs: [[u8; 2]; 6], b_control: bool) -> bool {
-    if first_above(pairs) {
-        say(b", and no SLP_TYP is above 7");
+fn wrong_pairs(out: &impl Print, pairs: [[u8; 2]; 6], b_control: bool) -> bool {
+    if first_above(out, pairs) {
+        say(out, b", and no SLP_TYP is above 7");
         return true;
     }
-    if first_shared(pairs, b_control) {
+    if first_shared(out, pairs, b_control) {
         if b_control {
-            say(b", the same pair");
+            say(out, b", the same pair");
         } else {
-            say(b", and without PM1b_CNT_BLK the first digits tell states apart");
+            say(
+                out,
+                b", and without PM1b_CNT_BLK the first digits tell states apart",
+            );
         }
         return true;
     }
     false
 }
 
-fn first_above(pairs: [[u8; 2]; 6]) -> bool {
+fn first_above(out: &impl Print, pairs: [[u8; 2]; 6]) -> bool {
     let mut i = 0;
     while i < 6 {
         let p = pairs[i];
         if above(p) {
-            state(i, p);
+            state(out, i, p);
             return true;
         }
         i += 1;
@@ -215,18 +218,18 @@ fn above(p: [u8; 2]) -> bool {
 }
 
 // As the platform line has it.
-fn state(i: usize, p: [u8; 2]) {
-    say(b"S");
-    count(i as u64);
-    say(b" is ");
-    hex(wide(p[0]), 1);
-    hex(wide(p[1]), 1);
+fn state(out: &impl Print, i: usize, p: [u8; 2]) {
+    say(out, b"S");
+    count(out, i as u64);
+    say(out, b" is ");
+    hex(out, wide(p[0]), 1);
+    hex(out, wide(p[1]), 1);
 }
 
-fn first_shared(pairs: [[u8; 2]; 6], b_control: bool) -> bool {
+fn first_shared(out: &impl Print, pairs: [[u8; 2]; 6], b_control: bool) -> bool {
     let mut i = 0;
     while i < 6 {
-        if shared_later(i, pairs[i], pairs, b_control) {
+        if shared_later(out, i, pairs[i], pairs, b_control) {
             return true;
         }
         i += 1;
@@ -235,12 +238,18 @@ fn first_shared(pairs: [[u8; 2]; 6], b_control: bool) -> bool {
 }
 
 // Whether state i shares its pair with a later one, which is then said.
-fn shared_later(i: usize, p: [u8; 2], pairs: [[u8; 2]; 6], b_control: bool) -> bool {
+fn shared_later(
+    out: &impl Print,
+    i: usize,
+    p: [u8; 2],
+    pairs: [[u8; 2]; 6],
+    b_control: bool,
+) -> bool {
     let mut j = 0;
     while j < 6 {
         let q = pairs[j];
         if (i < j) & share(p, q, b_control) {
-            two_states(i, p, j, q);
+            two_states(out, i, p, j, q);
             return true;
         }
         j += 1;
@@ -248,10 +257,10 @@ fn shared_later(i: usize, p: [u8; 2], pairs: [[u8; 2]; 6], b_control: bool) -> b
     false
 }
 
-fn two_states(i: usize, p: [u8; 2], j: usize, q: [u8; 2]) {
-    state(i, p);
-    say(b" and ");
-    state(j, q);
+fn two_states(out: &impl Print, i: usize, p: [u8; 2], j: usize, q: [u8; 2]) {
+    state(out, i, p);
+    say(out, b" and ");
+    state(out, j, q);
 }
 
 fn share(p: [u8; 2], q: [u8; 2], b_control: bool) -> bool {
