@@ -46,6 +46,7 @@ pub fn prepared(m: Machine) -> Run
 }
 
 // One step, its answer's number and value added to the sum.
+#[tactic(auto, unfolding(crate::specs::Runs::run_step))]
 pub fn done(r: Run, s: Step) -> Run
     ensures { result ≡ run_step r s }
 {
@@ -63,6 +64,7 @@ pub fn done(r: Run, s: Step) -> Run
 }
 
 // SCI and SMI, added to the sum.
+#[tactic(auto, unfolding(crate::specs::Runs::lines_added))]
 pub fn lines(r: Run) -> Run
     ensures { result ≡ lines_added r }
 {
@@ -89,6 +91,7 @@ fn wide16(x: u16) -> u64
 }
 
 // The sum, with the status cells and the counter at the end.
+#[tactic(auto, unfolding(crate::specs::Runs::sum_of))]
 pub fn sum(r: Run) -> u64
     ensures { result ≡ sum_of r }
 {

@@ -1,0 +1,15 @@
+-- `saved::reading::agreeing` meets its contract. The loop's invariant: what agrees before a place and from it on is all that agrees.
+-- Assumes nothing.
+use mathlib.Core.Path.{◌≡◌}
+use Prim.Native.Nat.{◌+◌, ◌-◌}
+use native.Mathlib.Omega.{arith}
+use lib.ListN.{length, drop}
+use Rattle.values.specs.Agree.{agreeing}
+use Rattle.values.proofs.Agreeing.{differs-here, agrees-here, first_ends, second-ends}
+use Rattle.saved.proofs.reading.agreeing.Given as goal
+
+abbrev pub invariant-loop-i : goal.invariant-loop-i
+invariant-loop-i l = l.i + agreeing (drop l.i l.left) (drop l.i l.right) ≡ agreeing l.left l.right
+
+abbrev pub decreases-loop-i : goal.decreases-loop-i
+decreases-loop-i l = length l.left - l.i

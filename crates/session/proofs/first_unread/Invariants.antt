@@ -1,0 +1,20 @@
+use borrow.Author.Rules.{rules}
+use Prim.Native.Nat.{◌+◌, ◌-◌, ◌≤◌, ◌<◌}
+use mathlib.Core.Path.{◌≡◌}
+use native.Mathlib.Numerals.{add-one}
+use native.Mathlib.Omega.{arith}
+use lib.ListN.{length, drop}
+use Rattle.text.specs.Parts.{lines_of}
+use Rattle.text.proofs.Lines.{next-line-further}
+use Rattle.session.proofs.Laws.{read-within, unread-turn, unread-here, unread-end}
+use mathlib.Core.Path.{refl, sym, ◌∙◌}
+use Rattle.session.specs.Session.{first_unread}
+use Rattle.session.proofs.first_unread.Given as goal
+
+abbrev pub invariant-loop-start : goal.invariant-loop-start
+invariant-loop-start l =
+    (first_unread (length l.source) l.k l.start (lines_of (drop l.start l.source)) ≡ first_unread (length l.source) l.first l.from (lines_of (drop l.from l.source)))
+    × (l.k ≤ l.start + 2)
+
+abbrev pub decreases-loop-start : goal.decreases-loop-start
+decreases-loop-start l = length l.source - l.start

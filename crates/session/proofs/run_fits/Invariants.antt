@@ -1,0 +1,19 @@
+use borrow.Author.Rules.{rules}
+use Prim.Native.Nat.{◌+◌, ◌-◌, ◌≤◌, ◌<◌}
+use mathlib.Core.Path.{◌≡◌, ap}
+use native.Mathlib.Numerals.{add-one}
+use native.Mathlib.Omega.{arith}
+use lib.Dec.{leb}
+use lib.ListN.{length}
+use Rattle.text.proofs.Lines.{next-line-further}
+use Rattle.model.specs.declared.Stepped.{Stepped}
+use Rattle.listing.specs.Entry.{entry_length}
+use Rattle.session.proofs.Laws.{entries_at, fit-turn, fit-not, fit-end}
+use mathlib.Core.Path.{refl, sym, ◌∙◌}
+use Rattle.session.proofs.run_fits.Given as goal
+
+abbrev pub invariant-loop-start : goal.invariant-loop-start
+invariant-loop-start l = (leb (length (entries_at l.source l.start l.k l.current)) l.left ≡ leb (length (entries_at l.source l.from 1 l.initial.current)) l.room) × (l.k ≤ l.start + 1)
+
+abbrev pub decreases-loop-start : goal.decreases-loop-start
+decreases-loop-start l = length l.source - l.start

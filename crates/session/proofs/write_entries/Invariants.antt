@@ -1,0 +1,23 @@
+use borrow.Author.Rules.{rules}
+use Prim.Native.Nat.{◌+◌, ◌-◌, ◌≤◌, ◌<◌}
+use mathlib.Core.Path.{◌≡◌, ap}
+use native.Mathlib.Numerals.{add-one}
+use native.Mathlib.Omega.{arith}
+use lib.ListN.{length}
+use lib.Seq.{sets}
+use Rattle.text.proofs.Lines.{next-line-further}
+use Rattle.model.specs.declared.Stepped.{Stepped}
+use Rattle.listing.specs.Entry.{entry, entry_length, put_at}
+use Rattle.session.proofs.Laws.{done_at, entries_at, entries-end, entries-length, write-turn, put-length}
+use mathlib.Core.Path.{refl, sym, ◌∙◌}
+use Rattle.session.proofs.write_entries.Given as goal
+
+abbrev pub invariant-loop-start : goal.invariant-loop-start
+invariant-loop-start l =
+    (sets l.buf l.o (entries_at l.source l.start l.k l.current) ≡ sets l.initial.buf l.at (entries_at l.source l.from 1 l.initial.current))
+    × (length l.buf ≡ length l.initial.buf)
+    × (l.o + length (entries_at l.source l.start l.k l.current) ≡ l.at + length (entries_at l.source l.from 1 l.initial.current))
+    × (l.k ≤ l.start + 1)
+
+abbrev pub decreases-loop-start : goal.decreases-loop-start
+decreases-loop-start l = length l.source - l.start

@@ -1,0 +1,19 @@
+use mathlib.Core.Logic.{inl, inr}
+use lib.ListN.{drop}
+use Rattle.text.specs.Parts.{lines_of}
+use Rattle.session.proofs.Laws.{room_for, listing-written, no_room}
+use mathlib.Core.Path.{sym, ◌∙◌}
+use borrow.Author.Rules.{rules}
+use Rattle.session.proofs.write_listing.Goals as goal
+
+pub returns-then-entries_fit : goal.returns-then-entries_fit
+returns-then-entries_fit c =
+    listing-written c.args.m (lines_of (drop c.args.from c.args.source.now)) c.args.buf.now _ _ _ c.if-room-ge-HEADER_LENGTH.true
+    (sym c.entries_fit.ensures ∙ c.if-entries_fit.true) c.write_header.ensures
+    c.write_entries-end.ensures.0 c.write_entries-end.ensures.1
+
+pub returns-then-room-ge-HEADER_LENGTH : goal.returns-then-room-ge-HEADER_LENGTH
+returns-then-room-ge-HEADER_LENGTH c = no_room c.args.m (lines_of (drop c.args.from c.args.source.now)) c.args.buf.now (inr (sym c.entries_fit.ensures ∙ c.if-entries_fit.false))
+
+pub returns : goal.returns
+returns c = no_room c.args.m (lines_of (drop c.args.from c.args.source.now)) c.args.buf.now (inl c.if-room-ge-HEADER_LENGTH.false)
