@@ -1,4 +1,3 @@
-use borrow.Author.Rules.{rules}
 use Rattle.bus.proofs.Laws.{reaches}
 use Rattle.bus.proofs.access.Goals as goal
 

@@ -1,6 +1,5 @@
 use Rattle.model.specs.Effect.{effect_of}
 use Rattle.model.specs.Step.{answer_to}
-use borrow.Author.Rules.{rules}
 use Rattle.bus.proofs.read.Goals as goal
 
 pub returns : goal.returns

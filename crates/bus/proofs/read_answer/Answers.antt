@@ -1,7 +1,6 @@
 use Rattle.machine.specs.Lines.{awake}
 use mathlib.Core.Path.{sym, ◌∙◌}
 use Rattle.model.specs.Answer.{first_applying}
-use borrow.Author.Rules.{rules}
 use Rattle.bus.proofs.read_answer.Goals as goal
 
 pub returns-then-wrong_width : goal.returns-then-wrong_width

@@ -1,7 +1,6 @@
 use Rattle.machine.specs.Lines.{awake}
 use mathlib.Core.Path.{sym, ◌∙◌}
 use Rattle.bus.proofs.Laws.{write-asleep, write-wrong-width, write-too-wide, write-not-allowed, write-reaches}
-use borrow.Author.Rules.{rules}
 use Rattle.bus.proofs.write.Goals as goal
 
 pub returns-then-wrong_width : goal.returns-then-wrong_width

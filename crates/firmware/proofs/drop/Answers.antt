@@ -3,7 +3,6 @@ use mathlib.Core.Path.{sym, ◌∙◌}
 use Rattle.model.specs.Effect.{effect_of}
 use Rattle.model.specs.Answer.{first_applying}
 use Rattle.model.specs.Step.{answer_to}
-use borrow.Author.Rules.{rules}
 use Rattle.firmware.proofs.drop.Goals as goal
 
 pub returns-then-awake : goal.returns-then-awake

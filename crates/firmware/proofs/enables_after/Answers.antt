@@ -1,6 +1,5 @@
 use mathlib.Core.Path.{sym, ◌∙◌}
 use Rattle.model.specs.Firmware.{is_acpi_enable, enables_after}
-use borrow.Author.Rules.{rules}
 use Rattle.firmware.proofs.enables_after.Goals as goal
 
 pub returns-then-x : goal.returns-then-x

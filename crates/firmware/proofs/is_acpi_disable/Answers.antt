@@ -1,5 +1,4 @@
 use Rattle.model.specs.Firmware.{is_acpi_disable}
-use borrow.Author.Rules.{rules}
 use Rattle.firmware.proofs.is_acpi_disable.Goals as goal
 
 pub returns : goal.returns

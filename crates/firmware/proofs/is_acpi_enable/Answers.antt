@@ -1,5 +1,4 @@
 use Rattle.model.specs.Firmware.{is_acpi_enable}
-use borrow.Author.Rules.{rules}
 use Rattle.firmware.proofs.is_acpi_enable.Goals as goal
 
 pub returns : goal.returns

@@ -1,6 +1,5 @@
 use mathlib.Core.Path.{sym, ◌∙◌}
 use Rattle.model.specs.Firmware.{sci_en_after}
-use borrow.Author.Rules.{rules}
 use Rattle.firmware.proofs.sci_en_after.Goals as goal
 
 pub returns-then-is_acpi_enable : goal.returns-then-is_acpi_enable

@@ -5,7 +5,6 @@ use Rattle.model.specs.Answer.{first_applying}
 use Rattle.model.specs.Step.{answer_to}
 use Rattle.model.specs.declared.Answer.TheVariants as answer
 use Rattle.model.proofs.Effects.{take-refused}
-use borrow.Author.Rules.{rules}
 use Rattle.firmware.proofs.take.Goals as goal
 
 pub returns-then-x : goal.returns-then-x

@@ -2,7 +2,6 @@ use Rattle.step.specs.Kinds.{of_kind}
 use Rattle.step.specs.declared.StepKind.TheVariants as kind
 use Rattle.step.proofs.Laws.{effect-by-kind, machine-take, machine-drop}
 use mathlib.Core.Path.{sym, ◌∙◌}
-use borrow.Author.Rules.{rules}
 use Rattle.step.proofs.effect.Goals as goal
 
 pub returns-in-Bus : goal.returns-in-Bus

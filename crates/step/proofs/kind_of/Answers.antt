@@ -1,5 +1,4 @@
 use Rattle.step.specs.Kinds.{step_kind}
-use borrow.Author.Rules.{rules}
 use Rattle.step.proofs.kind_of.Goals as goal
 
 pub returns-in-Read : goal.returns-in-Read

@@ -1,6 +1,5 @@
 -- `step::step` meets its contract: a step is its effect, done to the machine (`model`'s effect-law). Assumes nothing.
 use mathlib.Core.Path.{◌≡◌, ◌∙◌, ap}
-use borrow.Author.Rules.{rules}
 use Rattle.machine.specs.Applied.{applied}
 use Rattle.machine.specs.declared.Machine.{Machine}
 use Rattle.model.specs.Effect.{stepped_by, effect_of}

@@ -2,7 +2,6 @@ use Rattle.machine.specs.Scalars.{bare}
 use Rattle.registers.specs.Registers.{in_status, in_enable, status_after, enable_after}
 use Rattle.model.specs.declared.Register.TheVariants as register
 use Rattle.bus.proofs.Laws.{past-four, event-write-past}
-use borrow.Author.Rules.{rules}
 use Rattle.bus.proofs.cell_rules.event_written.Goals as goal
 
 pub returns-in-0 : goal.returns-in-0

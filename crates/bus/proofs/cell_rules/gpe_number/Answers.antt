@@ -1,5 +1,4 @@
 use Rattle.bus.specs.GpeBytes.{gpe_number}
-use borrow.Author.Rules.{rules}
 use Rattle.bus.proofs.cell_rules.gpe_number.Goals as goal
 
 pub returns : goal.returns

@@ -1,7 +1,6 @@
 -- `bus::cell_rules::read_cells` meets its contract: each arm is the rule of its byte, and past a register's bytes nothing shows. Assumes nothing.
 use Rattle.model.specs.Bus.{read_of}
 use native.Mathlib.Omega.{arith}
-use borrow.Author.Rules.{rules}
 use Rattle.registers.specs.Registers.{in_status, in_enable}
 use Rattle.bus.proofs.Laws.{cell-in-status, cell-past-status, past-four, past_two, event-read-past, control-read-past}
 use Rattle.bus.proofs.cell_rules.read_cells.Goals as goal

@@ -1,8 +1,6 @@
 -- `bus::cell_rules::write_cells` meets its contract: each arm is the rule of its register's byte. Assumes nothing.
-use mathlib.Core.Logic.{⊎_elim}
-use Rattle.bus.proofs.Laws.{machine-event, machine-control, cell-in-status, cell-past-status, past_two, at_register, smi-refuses, smi-takes, event-takes, control-takes, control-first, control-second, control-none, pm2-takes, timer-refuses, status-takes, enable-takes, nowhere-refuses}
+use Rattle.bus.proofs.Laws.{machine-event, machine-control, cell-in-status, cell-past-status, at_register, smi-refuses, smi-takes, event-takes, control-takes, control-first, control-second, control-none, pm2-takes, timer-refuses, status-takes, enable-takes, nowhere-refuses}
 use native.Mathlib.Omega.{arith}
-use borrow.Author.Rules.{rules}
 use Rattle.bus.proofs.cell_rules.write_cells.Goals as goal
 use Rattle.bus.proofs.cell_rules.write_cells.Goals.{in-0, in-1, in_default}
 
