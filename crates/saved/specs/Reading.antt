@@ -1,5 +1,5 @@
 -- A saved text read: "A text is accepted exactly if it is well formed and legal".
-use Rattle.std.specs.Prelude.{Bool, true, false, not, cond, ◌&&◌, List, ℕ, zero, suc, ◌+◌, ◌*◌, eqb, length, take, drop}
+use Rattle.std.specs.Prelude.{Bool, true, false, cond, ◌&&◌, List, ℕ, zero, suc, ◌+◌, ◌*◌, eqb, length, take, drop}
 use Prim.Native.String.{String}
 use Rattle.text.specs.Parts.{lf, front, same_text, parts as parts_by}
 use Rattle.records.specs.Ascii.{ascii}

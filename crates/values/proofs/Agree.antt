@@ -1,7 +1,7 @@
 -- What the reader's test of the values means, and that the values of a legal machine pass it.
 -- The values of a machine do not look at its general event bytes.
 -- Assumes nothing.
-use mathlib.Core.Bool.{true, false, not}
+use mathlib.Core.Bool.{true, false}
 use mathlib.Core.List.{List, []}
 use mathlib.Core.Path.{◌≡◌, ap}
 use Prim.Native.Nat.{ℕ}

@@ -2,7 +2,6 @@ use mathlib.Core.Path.{refl, sym, ◌∙◌}
 use Rattle.events.specs.declared.EventKind.TheVariants as kind
 use Rattle.events.proofs.ByKind.{on-machine, noticed, signal-mask, signal-effect, notice-mask, notice-effect, effect-by-kind, pin-effect}
 use Rattle.model.specs.Effect.{effect_of}
-use borrow.Author.Rules.{rules}
 use Rattle.events.proofs.event.Goals as goal
 
 pub signal-requires : goal.signal-requires

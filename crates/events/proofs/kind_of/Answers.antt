@@ -1,5 +1,4 @@
 use Rattle.events.specs.Kinds.{kind_of}
-use borrow.Author.Rules.{rules}
 use Rattle.events.proofs.kind_of.Goals as goal
 
 pub returns-in-Press : goal.returns-in-Press

@@ -3,7 +3,6 @@ use Rattle.model.specs.Effect.{event_effect, pin_effect}
 use Rattle.model.specs.Answer.{first_applying}
 use Rattle.model.specs.declared.Answer.TheVariants as answer
 use Rattle.model.proofs.Effects.{event-refused}
-use borrow.Author.Rules.{rules}
 use Rattle.events.proofs.buttons.pin.Goals as goal
 
 pub returns-then-x-active : goal.returns-then-x-active

@@ -1,6 +1,5 @@
 use mathlib.Core.Path.{sym, ◌∙◌}
 use Rattle.model.specs.Effect.{press_wakes}
-use borrow.Author.Rules.{rules}
 use Rattle.events.proofs.buttons.press_wakes.Goals as goal
 
 pub returns-then-is_s5 : goal.returns-then-is_s5

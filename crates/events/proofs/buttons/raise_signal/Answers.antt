@@ -1,7 +1,6 @@
 use Rattle.model.specs.Effect.{signal_effect}
 use Rattle.model.specs.Events.{in_s5}
 use mathlib.Core.Path.{sym, ◌∙◌}
-use borrow.Author.Rules.{rules}
 use Rattle.events.proofs.buttons.raise_signal.Goals as goal
 
 pub returns-then-is_s5 : goal.returns-then-is_s5

@@ -4,7 +4,6 @@ use Rattle.model.specs.Answer.{first_applying}
 use Rattle.model.specs.Effect.{release_effect}
 use Rattle.model.specs.declared.Answer.TheVariants as answer
 use Rattle.model.proofs.Effects.{event-refused}
-use borrow.Author.Rules.{rules}
 use Rattle.events.proofs.buttons.release.Goals as goal
 
 pub returns-then-x : goal.returns-then-x

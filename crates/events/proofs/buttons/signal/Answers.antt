@@ -1,7 +1,6 @@
 use mathlib.Core.Path.{sym, ◌∙◌}
 use Rattle.model.specs.Effect.{event_effect}
 use Rattle.model.specs.Answer.{first_applying}
-use borrow.Author.Rules.{rules}
 use Rattle.events.proofs.buttons.signal.Goals as goal
 
 pub returns-then-fits : goal.returns-then-fits

@@ -1,6 +1,5 @@
 use mathlib.Core.Path.{sym}
 use Rattle.model.specs.Effect.{wakes_if}
-use borrow.Author.Rules.{rules}
 use Rattle.events.proofs.buttons.wakes_if.Goals as goal
 
 pub returns-then-is_sleeping-test : goal.returns-then-is_sleeping-test

@@ -1,7 +1,6 @@
 use mathlib.Core.Path.{sym}
 use Rattle.model.specs.Effect.{event_effect}
 use Rattle.model.specs.Answer.{first_applying}
-use borrow.Author.Rules.{rules}
 use Rattle.events.proofs.general.general.Goals as goal
 
 pub returns-then-in_gpe0-in_gpe1 : goal.returns-then-in_gpe0-in_gpe1

@@ -1,5 +1,4 @@
 use Rattle.model.specs.Events.{in_gpe0}
-use borrow.Author.Rules.{rules}
 use Rattle.events.proofs.general.in_gpe0.Goals as goal
 
 pub returns : goal.returns

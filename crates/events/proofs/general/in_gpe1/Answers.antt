@@ -1,5 +1,4 @@
 use Rattle.model.specs.Events.{in_gpe1}
-use borrow.Author.Rules.{rules}
 use Rattle.events.proofs.general.in_gpe1.Goals as goal
 
 pub returns : goal.returns

@@ -2,7 +2,6 @@ use Rattle.model.specs.Effect.{general_effect}
 use Rattle.model.specs.Events.{in_s5, general_enabled}
 use mathlib.Core.Path.{sym, ◌∙◌}
 use Rattle.model.specs.Effect.{general_effect}
-use borrow.Author.Rules.{rules}
 use Rattle.events.proofs.general.raise_general.Goals as goal
 
 pub returns-then-is_s5 : goal.returns-then-is_s5

@@ -1,6 +1,5 @@
 use mathlib.Core.Path.{sym, ◌∙◌}
 use Rattle.model.specs.Effect.{general_byte}
-use borrow.Author.Rules.{rules}
 use Rattle.events.proofs.general.raised_byte.Goals as goal
 
 pub returns-then-in_gpe0 : goal.returns-then-in_gpe0

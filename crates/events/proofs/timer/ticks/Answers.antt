@@ -3,7 +3,6 @@ use mathlib.Core.Path.{sym, ◌∙◌}
 use Rattle.model.specs.Effect.{event_effect}
 use Rattle.model.specs.Answer.{first_applying}
 use Rattle.model.specs.Effect.{ticks_effect}
-use borrow.Author.Rules.{rules}
 use Rattle.events.proofs.timer.ticks.Goals as goal
 
 pub returns-then-awake : goal.returns-then-awake

@@ -1,5 +1,4 @@
 use Rattle.model.specs.Events.{tmr_raised}
-use borrow.Author.Rules.{rules}
 use Rattle.events.proofs.timer.tmr_raised.Goals as goal
 
 pub returns : goal.returns

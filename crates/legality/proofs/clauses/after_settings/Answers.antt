@@ -1,5 +1,4 @@
 use Rattle.legality.specs.Legality.{after_settings}
-use borrow.Author.Rules.{rules}
 use Rattle.legality.proofs.clauses.after_settings.Goals as goal
 
 pub returns : goal.returns

@@ -1,11 +1,8 @@
-use mathlib.Core.Path.{◌≡◌, refl}
-use Prim.Native.Nat.{◌≤◌, ◌<◌, ◌-◌}
-use borrow.Author.Rules.{rules}
+use Prim.Native.Nat.{◌≤◌, ◌<◌}
 use borrow.Author.Tests.{lt-ltb, le-ltb}
 use native.Mathlib.Omega.{arith}
 use lib.Dec.{ltb}
-use lib.ListN.{length, drop}
-use Rattle.lists.specs.Any.{any}
+use lib.ListN.{length}
 use Rattle.lists.proofs.Search.{any-turn, any-end}
 use Rattle.legality.proofs.clauses.any_set.Goals as goal
 

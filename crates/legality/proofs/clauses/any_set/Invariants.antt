@@ -1,14 +1,10 @@
 -- `legality::clauses::any_set` meets its contract. The loop's invariant: the search of what is left gives what the whole search gives.
 -- Assumes nothing.
-use mathlib.Core.Path.{◌≡◌, refl}
-use Prim.Native.Nat.{◌≤◌, ◌<◌, ◌-◌}
-use borrow.Author.Rules.{rules}
-use borrow.Author.Tests.{lt-ltb, le-ltb}
-use native.Mathlib.Omega.{arith}
+use mathlib.Core.Path.{◌≡◌}
+use Prim.Native.Nat.{◌-◌}
 use lib.Dec.{ltb}
 use lib.ListN.{length, drop}
 use Rattle.lists.specs.Any.{any}
-use Rattle.lists.proofs.Search.{any-turn, any-end}
 use Rattle.legality.proofs.clauses.any_set.Given as goal
 
 abbrev pub invariant-loop-i : goal.invariant-loop-i

@@ -1,5 +1,4 @@
 use Rattle.model.specs.Legal.{arb_dis_legal}
-use borrow.Author.Rules.{rules}
 use Rattle.legality.proofs.clauses.arb_dis_legal.Goals as goal
 
 pub returns : goal.returns

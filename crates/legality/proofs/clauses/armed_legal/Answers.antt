@@ -1,6 +1,5 @@
 use Rattle.machine.specs.Lines.{awake}
 use Rattle.model.specs.Legal.{armed_legal}
-use borrow.Author.Rules.{rules}
 use Rattle.legality.proofs.clauses.armed_legal.Goals as goal
 
 pub returns : goal.returns

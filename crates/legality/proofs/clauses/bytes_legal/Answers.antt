@@ -1,6 +1,5 @@
 use mathlib.Core.Bool.{not}
 use mathlib.Core.Path.{◌∙◌, ap}
-use borrow.Author.Rules.{rules}
 use Rattle.legality.proofs.Typed.{array-legal}
 use Rattle.legality.proofs.clauses.bytes_legal.Goals as goal
 

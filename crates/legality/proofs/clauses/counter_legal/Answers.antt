@@ -1,5 +1,4 @@
 use Rattle.model.specs.Legal.{counter_legal}
-use borrow.Author.Rules.{rules}
 use Rattle.legality.proofs.clauses.counter_legal.Goals as goal
 
 pub returns : goal.returns

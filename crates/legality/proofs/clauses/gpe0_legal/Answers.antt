@@ -1,5 +1,4 @@
 use Rattle.model.specs.Legal.{gpe_legal}
-use borrow.Author.Rules.{rules}
 use Rattle.legality.proofs.clauses.gpe0_legal.Goals as goal
 
 pub returns : goal.returns

@@ -1,6 +1,5 @@
 use mathlib.Core.Path.{sym, ◌∙◌}
 use Rattle.legality.specs.Legality.{legality_of}
-use borrow.Author.Rules.{rules}
 use Rattle.legality.proofs.clauses.judge.Goals as goal
 
 pub returns-in-Refused : goal.returns-in-Refused

@@ -1,6 +1,5 @@
 use Rattle.legality.specs.Legality.{one_value}
 use Rattle.model.specs.Legal.{command_byte_legal}
-use borrow.Author.Rules.{rules}
 use Rattle.legality.proofs.clauses.one_value.Goals as goal
 
 pub returns : goal.returns

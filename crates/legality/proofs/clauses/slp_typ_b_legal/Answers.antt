@@ -2,7 +2,6 @@ use lib.Dec.{eqb}
 use Rattle.registers.specs.Registers.{has_pm1b_cnt}
 use Rattle.model.specs.Legal.{slp_typ_b_legal}
 use Rattle.legality.proofs.Typed.{or-only}
-use borrow.Author.Rules.{rules}
 use Rattle.legality.proofs.clauses.slp_typ_b_legal.Goals as goal
 
 pub returns : goal.returns

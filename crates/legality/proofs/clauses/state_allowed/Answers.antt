@@ -1,10 +1,7 @@
-use mathlib.Core.List.{[]}
-use Prim.Native.Nat.{◌≤◌, ◌<◌}
+use Prim.Native.Nat.{◌≤◌}
 use native.Mathlib.Omega.{arith}
 use lib.ListN.{length}
-use Rattle.model.specs.Legal.{absent_pair}
-use Rattle.legality.proofs.Typed.{in_list, past-absent}
-use borrow.Author.Rules.{rules}
+use Rattle.legality.proofs.Typed.{past-absent}
 use Rattle.legality.proofs.clauses.state_allowed.Goals as goal
 
 pub returns-else-i-lt6 : goal.returns-else-i-lt6

@@ -1,5 +1,4 @@
 use Rattle.model.specs.Legal.{state_allowed}
-use borrow.Author.Rules.{rules}
 use Rattle.legality.proofs.clauses.state_legal.Goals as goal
 
 pub returns : goal.returns

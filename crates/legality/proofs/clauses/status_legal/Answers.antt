@@ -1,5 +1,4 @@
 use Rattle.model.specs.Legal.{status_legal}
-use borrow.Author.Rules.{rules}
 use Rattle.legality.proofs.clauses.status_legal.Goals as goal
 
 pub returns : goal.returns

@@ -1,5 +1,4 @@
 use Rattle.platform.specs.Legal.{stray_length}
-use borrow.Author.Rules.{rules}
 use Rattle.legality.proofs.clauses.stray_length.Goals as goal
 
 pub returns : goal.returns

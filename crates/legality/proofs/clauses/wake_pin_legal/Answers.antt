@@ -1,5 +1,4 @@
 use Rattle.model.specs.Legal.{wake_pin_legal}
-use borrow.Author.Rules.{rules}
 use Rattle.legality.proofs.clauses.wake_pin_legal.Goals as goal
 
 pub returns : goal.returns

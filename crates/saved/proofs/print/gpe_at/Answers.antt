@@ -1,5 +1,4 @@
 use native.Mathlib.Omega.{arith}
-use borrow.Author.Rules.{rules}
 use Rattle.saved.proofs.Laws.{gpe-at-short}
 use Rattle.saved.proofs.print.gpe_at.Goals as goal
 

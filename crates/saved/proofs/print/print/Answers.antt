@@ -1,7 +1,6 @@
 use native.Mathlib.Omega.{arith}
 use Rattle.saved.specs.Text.{gpe_text}
 use Rattle.saved.proofs.Laws.{gpe-at-short, all-written}
-use borrow.Author.Rules.{rules}
 use Rattle.saved.proofs.print.print.Goals as goal
 
 pub put_gpe-requires : goal.put_gpe-requires

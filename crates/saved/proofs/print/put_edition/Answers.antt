@@ -1,5 +1,4 @@
 use native.Mathlib.Omega.{arith}
-use borrow.Author.Rules.{rules}
 use Rattle.records.specs.Ascii.{ascii}
 use Rattle.text.proofs.Fewest.{at-most-20}
 use Rattle.saved.proofs.Laws.{edition-written}

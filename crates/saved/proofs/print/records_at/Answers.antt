@@ -1,5 +1,4 @@
 use native.Mathlib.Omega.{arith}
-use borrow.Author.Rules.{rules}
 use Rattle.text.proofs.Fewest.{at-most-20}
 use Rattle.saved.proofs.Laws.{records-at}
 use Rattle.saved.proofs.print.records_at.Goals as goal

@@ -2,7 +2,6 @@ use native.Mathlib.Omega.{arith}
 use lib.Dec.{lit<}
 use Rattle.saved.specs.Text.{newest}
 use Rattle.saved.proofs.Laws.{gpe-at-short, write-fits, write-refused}
-use borrow.Author.Rules.{rules}
 use Rattle.saved.proofs.print.write.Goals as goal
 
 pub text_length-n-requires : goal.text_length-n-requires

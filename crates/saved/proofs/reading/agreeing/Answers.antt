@@ -1,8 +1,4 @@
-use mathlib.Core.Path.{◌≡◌}
-use Prim.Native.Nat.{◌+◌, ◌-◌}
 use native.Mathlib.Omega.{arith}
-use lib.ListN.{length, drop}
-use Rattle.values.specs.Agree.{agreeing}
 use Rattle.values.proofs.Agreeing.{differs-here, agrees-here, first_ends, second-ends}
 use Rattle.saved.proofs.reading.agreeing.Goals as goal
 

@@ -2,10 +2,8 @@
 -- Assumes nothing.
 use mathlib.Core.Path.{◌≡◌}
 use Prim.Native.Nat.{◌+◌, ◌-◌}
-use native.Mathlib.Omega.{arith}
 use lib.ListN.{length, drop}
 use Rattle.values.specs.Agree.{agreeing}
-use Rattle.values.proofs.Agreeing.{differs-here, agrees-here, first_ends, second-ends}
 use Rattle.saved.proofs.reading.agreeing.Given as goal
 
 abbrev pub invariant-loop-i : goal.invariant-loop-i

@@ -1,6 +1,5 @@
 use mathlib.Core.Path.{refl, sym, ◌∙◌}
 use Rattle.saved.specs.Reading.{edition_up_to}
-use borrow.Author.Rules.{rules}
 use Rattle.text.specs.Numbers.{digits, digit_count, count_within, glyph}
 use Rattle.records.specs.Ascii.{ascii}
 use Rattle.saved.proofs.reading.edition_of.Goals as goal

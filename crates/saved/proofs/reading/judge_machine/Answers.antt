@@ -4,7 +4,7 @@ use Rattle.records.specs.Rows.{row_count}
 use Rattle.values.specs.Values.{values_of}
 use Rattle.values.proofs.Agreeing.{agree-first}
 use Rattle.saved.proofs.Judged.{legal-answer}
-use mathlib.Core.Path.{refl, sym, ◌∙◌}
+use mathlib.Core.Path.{sym, ◌∙◌}
 use borrow.Author.Rules.{rules}
 use Rattle.saved.proofs.reading.judge_machine.Goals as goal
 

@@ -5,7 +5,6 @@ use lib.Seq.{length-take-le}
 use Rattle.values.proofs.Agreeing.{agree-first}
 use mathlib.Core.Path.{sym}
 use Rattle.saved.specs.Reading.{malformed_line}
-use borrow.Author.Rules.{rules}
 use Rattle.saved.proofs.reading.malformed_line.Goals as goal
 
 pub slice_bounds-part_count-end : goal.slice_bounds-part_count-end

@@ -2,7 +2,6 @@ use mathlib.Core.Path.{◌≡◌, subst}
 use borrow.Author.Tests.{ne_eqb}
 use mathlib.Core.Path.{refl, sym, ◌∙◌}
 use Rattle.saved.specs.Reading.{read_in}
-use borrow.Author.Rules.{rules}
 use Rattle.saved.proofs.reading.read.Goals as goal
 
 pub returns-then-edition-eq0 : goal.returns-then-edition-eq0

@@ -4,7 +4,6 @@ use Rattle.saved.specs.Reading.{read_parts}
 use Rattle.saved.proofs.Laws.{gpe-at-short}
 use Rattle.saved.proofs.Judged.{parts-found}
 use mathlib.Core.Path.{◌∙◌}
-use borrow.Author.Rules.{rules}
 use Rattle.saved.proofs.reading.read_in.Goals as goal
 
 pub overflow_add-en0-2 : goal.overflow_add-en0-2

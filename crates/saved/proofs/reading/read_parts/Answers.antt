@@ -1,6 +1,5 @@
-use Rattle.saved.proofs.Judged.{accepted-parts, refused-parts}
+use Rattle.saved.proofs.Judged.{accepted-parts}
 use mathlib.Core.Path.{sym, ◌∙◌}
-use borrow.Author.Rules.{rules}
 use Rattle.saved.proofs.reading.read_parts.Goals as goal
 
 pub returns-then-is_done : goal.returns-then-is_done

@@ -1,10 +1,9 @@
-use mathlib.Core.Path.{◌≡◌, refl, sym, ◌∙◌}
+use mathlib.Core.Path.{◌∙◌}
 use mathlib.Core.List.{◌++◌}
-use Prim.Native.Nat.{◌-◌, ◌≤◌, ◌<◌}
+use Prim.Native.Nat.{◌<◌}
 use native.Mathlib.Omega.{arith}
-use borrow.Author.Rules.{rules}
-use lib.ListN.{length, take, drop, length-append, length-set}
-use Rattle.values.proofs.Joined.{fill-turn, fill_end}
+use lib.ListN.{length, length-append, length-set}
+use Rattle.values.proofs.Joined.{fill-turn}
 use Rattle.values.proofs.of.joined.Goals as goal
 
 pub loop-i-preserved : goal.loop-i-preserved

@@ -1,12 +1,9 @@
 -- `values::of::joined` meets its contract. The loop's invariant: what is filled, and what is left of the two lists, is the whole of them.
 -- Assumes nothing.
-use mathlib.Core.Path.{◌≡◌, refl, sym, ◌∙◌}
+use mathlib.Core.Path.{◌≡◌}
 use mathlib.Core.List.{◌++◌}
-use Prim.Native.Nat.{◌-◌, ◌≤◌, ◌<◌}
-use native.Mathlib.Omega.{arith}
-use borrow.Author.Rules.{rules}
-use lib.ListN.{length, take, drop, length-append, length-set}
-use Rattle.values.proofs.Joined.{fill-turn, fill_end}
+use Prim.Native.Nat.{◌-◌}
+use lib.ListN.{length, take, drop}
 use Rattle.values.proofs.of.joined.Given as goal
 
 abbrev pub invariant-loop-i : goal.invariant-loop-i

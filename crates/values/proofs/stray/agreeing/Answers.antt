@@ -1,9 +1,7 @@
 use mathlib.Core.Path.{◌≡◌}
-use Prim.Native.Nat.{◌+◌, ◌-◌}
 use native.Mathlib.Omega.{arith}
 use borrow.Author.Rules.{rules}
-use lib.ListN.{length, drop}
-use Rattle.values.specs.Agree.{agreeing}
+use lib.ListN.{length}
 use Rattle.values.proofs.Agreeing.{differs-here, agrees-here, first_ends}
 use Rattle.values.proofs.stray.agreeing.Goals as goal
 

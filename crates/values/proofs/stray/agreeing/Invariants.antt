@@ -2,11 +2,8 @@
 -- Assumes nothing.
 use mathlib.Core.Path.{◌≡◌}
 use Prim.Native.Nat.{◌+◌, ◌-◌}
-use native.Mathlib.Omega.{arith}
-use borrow.Author.Rules.{rules}
-use lib.ListN.{length, drop}
+use lib.ListN.{drop}
 use Rattle.values.specs.Agree.{agreeing}
-use Rattle.values.proofs.Agreeing.{differs-here, agrees-here, first_ends}
 use Rattle.values.proofs.stray.agreeing.Given as goal
 
 abbrev pub invariant-loop-i : goal.invariant-loop-i

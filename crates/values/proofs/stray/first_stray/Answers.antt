@@ -1,5 +1,4 @@
 use Rattle.values.specs.Agree.{agreeing}
-use borrow.Author.Rules.{rules}
 use Rattle.values.proofs.stray.first_stray.Goals as goal
 
 pub returns : goal.returns
