@@ -8,8 +8,8 @@ returns-then-at-gt-ROOM c = simp (lt-ltb _ _ c.if-at-gt-ROOM.true)
 
 pub returns-then-is_wide : goal.returns-then-is_wide
 unfolding field_set
-returns-then-is_wide c = simp (c.low_byte-then-is_wide-3.ensures, c.low_byte-then-is_wide-2.ensures, c.low_byte-then-is_wide.ensures, sym c.is_is_wide.ensures ∙ c.if-is_wide.true, c.low_byte.ensures, le-ltb _ _ c.if-at-gt-ROOM.false)
+returns-then-is_wide c = simp (c.low_byte-then-is_wide-3.ensures, c.low_byte-then-is_wide-2.ensures, c.low_byte-then-is_wide.ensures, sym c.is_wide.ensures ∙ c.if-is_wide.true, c.low_byte.ensures, le-ltb _ _ c.if-at-gt-ROOM.false)
 
 pub returns : goal.returns
 unfolding field_set
-returns c = simp (sym c.is_is_wide.ensures ∙ c.if-is_wide.false, c.low_byte.ensures, le-ltb _ _ c.if-at-gt-ROOM.false)
+returns c = simp (sym c.is_wide.ensures ∙ c.if-is_wide.false, c.low_byte.ensures, le-ltb _ _ c.if-at-gt-ROOM.false)
