@@ -19,6 +19,7 @@ pub struct Ports {
 }
 
 // As the worked session's table has them, from PM1a_EVT on.
+#[tactic(auto, unfolding(crate::specs::GeneralRound::ports_of))]
 fn ports_from(base: u64) -> Ports
     ensures { result ≡ ports_of base }
 {
@@ -41,6 +42,7 @@ fn write_at(port: u64, written: u64) -> Step
 }
 
 // General event 3 enabled, raised, its status read and cleared.
+#[tactic(auto, unfolding(crate::specs::GeneralRound::general_at))]
 fn general_at(k: u64, p: Ports) -> Step
     ensures { result ≡ general_at k p }
 {
@@ -116,6 +118,7 @@ fn status_from(mut m: Machine, sum: u64) -> Machine
 }
 
 // The status cells from the sum so far, and the lines; 257 more, so that every status byte differs in the next turn.
+#[tactic(auto, unfolding(crate::specs::LinesAlone::lines_turn))]
 fn lines_turn(r: Run) -> Run
     ensures { result ≡ lines_turn r }
 {

@@ -44,6 +44,7 @@ pub enum Row {
 }
 
 // As the worked session's table has them, from PM1a_EVT on.
+#[tactic(auto, unfolding(crate::specs::Rows::ports_of))]
 fn ports_from(base: u64) -> Ports
     ensures { result ≡ ports_of base }
 {
@@ -55,6 +56,7 @@ fn ports_from(base: u64) -> Ports
     }
 }
 
+#[tactic(auto, unfolding(crate::specs::Rows::row_of))]
 fn row_of(n: u32) -> Row
     ensures { result ≡ row_of n }
 {
@@ -84,6 +86,7 @@ fn last_of(row: Row) -> u64
     }
 }
 
+#[tactic(auto, unfolding(crate::specs::Rows::event_at))]
 fn event_at(k: u64) -> Event
     ensures { result ≡ event_at k }
 {
@@ -111,6 +114,7 @@ fn write_at(port: u64, written: u64) -> Step
 }
 
 // An alarm; both halves of status read; and each written back what it read, two steps before.
+#[tactic(auto, unfolding(crate::specs::Rows::interrupt_at))]
 fn interrupt_at(k: u64, p: Ports, older: u32) -> Step
     ensures { result ≡ interrupt_at k p older }
 {
@@ -124,6 +128,7 @@ fn interrupt_at(k: u64, p: Ports, older: u32) -> Step
 }
 
 // To S3, and an alarm that wakes; WAK and RTC cleared.
+#[tactic(auto, unfolding(crate::specs::Rows::sleep_at))]
 fn sleep_at(k: u64, p: Ports) -> Step
     ensures { result ≡ sleep_at k p }
 {
@@ -204,6 +209,7 @@ pub extern "C" fn speed_run_steps(table: &[u8], base: u64, row: u32, n: u64) -> 
 }
 
 // Setting up once more, with the override where the sum so far is odd; its number, and 3 or 1 by the override kept, are added.
+#[tactic(auto, unfolding(crate::specs::SetUps::set_up_turn))]
 fn set_up_turn(table: &[u8], sum: u64) -> u64
     ensures { result ≡ set_up_turn table.now sum }
 {

@@ -1,0 +1,12 @@
+-- `speed_general::steps` meets its contract. The loop's invariant: the steps that are left, from the place and the run as they are, give what all of them
+-- give from the start. Assumes nothing.
+use Rattle.std.proofs.Common.{◌≡◌, suc, ◌-◌, sym, refl, ◌∙◌, arith, rules}
+use Rattle.speed_general.specs.GeneralRound.{general_steps}
+use Rattle.speed_general.proofs.Laws.{steps-turn, steps-end}
+use Rattle.speed_general.proofs.steps.Given as goal
+
+abbrev pub invariant-loop-left : goal.invariant-loop-left
+invariant-loop-left l = general_steps l.p l.left l.k l.r ≡ general_steps l.p l.n 0 l.initial.r
+
+abbrev pub decreases-loop-left : goal.decreases-loop-left
+decreases-loop-left l = l.left

@@ -1,0 +1,16 @@
+use Rattle.std.proofs.Common.{◌≡◌, ℕ, ◌+◌, ◌-◌, ◌%◌, ◌<◌, List, [], ◌∷◌, ◌++◌, length, get_or, take, refl, ap, ◌∙◌, add-one, arith, take_all, take-suc, rules}
+use Rattle.test_tables.specs.Tables.{sum}
+use Rattle.test_tables.proofs.tables.sum_all.Goals as goal
+
+sum-append : (xs ys : List ℕ) → sum (xs ++ ys) ≡ sum xs + sum ys
+sum-append [] ys = omega arith
+sum-append (x ∷ xs) ys = let e = sum-append xs ys in omega arith
+
+-- one byte more
+sum_more : (xs : List ℕ) (i : ℕ) → i < length xs → sum (take (i + 1) xs) ≡ sum (take i xs) + get_or xs i 0
+sum_more xs i h = rw (add-one, take-suc xs i 0 h, sum-append) (omega arith)
+
+pub loop-i-preserved : goal.loop-i-preserved
+loop-i-preserved c =
+    let more = sum_more c.args.bytes.now c.loop-i.i (omega arith) in
+    omega (arith, more, c.wrapping_add_u8-total.ensures, c.loop-i.invariant)
