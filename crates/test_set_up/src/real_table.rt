@@ -14,14 +14,18 @@ pub(crate) fn real_table(rt: &(impl Files + Print + Eprint + AllocGlobal)) {
 
 // Says on standard error why the file does not open.
 fn fail(rt: &(impl Eprint + AllocGlobal), path: &str, error: Error) {
-    let Ok(text) = error.to_string(rt.alloc()) else {
-        return;
-    };
-    let words = match text.split_once(" (os error ") {
+    if let Ok(text) = error.to_string(rt.alloc()) {
+        let words = without_number(text.as_str());
+        let _ = eprintln!(rt; "{path}: {words}");
+    }
+}
+
+// The system's words for an error, without its number behind them.
+fn without_number(text: &str) -> &str {
+    match text.split_once(" (os error ") {
         Some((words, _)) => words,
-        None => text.as_str(),
-    };
-    let _ = eprintln!(rt; "{path}: {words}");
+        None => text,
+    }
 }
 
 fn answers(out: &impl Print, file: &mut impl Read) {
