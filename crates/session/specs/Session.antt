@@ -1,5 +1,5 @@
 -- "A session, whole": from a table's bytes and a script's to the listing, or to the machine at the end; and one resumed, from a machine.
-use Rattle.std.specs.Prelude.{Bool, true, false, not, cond, ◌&&◌, List, [], ◌∷◌, ◌++◌, ℕ, suc, ◌+◌, min, eqb, leb, length, drop}
+use Rattle.std.specs.Prelude.{Bool, true, false, cond, ◌&&◌, List, [], ◌∷◌, ◌++◌, ℕ, suc, ◌+◌, min, eqb, leb, length, drop}
 use Rattle.text.specs.Parts.{lf, front, lines_of, next_line}
 use Rattle.platform.specs.Answer.{if_done}
 use Rattle.platform.specs.declared.rules.SetUpRefusal.{SetUpRefusal}

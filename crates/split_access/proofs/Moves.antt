@@ -18,7 +18,6 @@ use Rattle.machine.proofs.Accepted.{accepted-guaranteed}
 use Rattle.model.specs.Step.{answer_to, after, step_of}
 use Rattle.model.proofs.Settings.{settings-kept}
 use Rattle.model.specs.declared.Step.{Step}
-use Rattle.model.specs.declared.Step.TheVariants as step
 use Rattle.split_access.specs.Start.{InS0}
 use Rattle.split_access.specs.Gap.{on_event, before, is_button, is_ticking}
 use Rattle.split_access.specs.Claims.{access_at, Halves, reads, writes, GapStep, gap_step, mixed, ItemOn, step-item, control-item, event-item, MovesFrom, Demand3}

@@ -1,7 +1,7 @@
 -- What fails: the faulty steps, the write-back without its exemption, and demand 3 with mixed gaps or with the other side moved; each by a list of
 -- a few steps on the worked platform.
 -- Every premise is computed, and the conclusion says that two different values are equal. Assumes nothing.
-use mathlib.Core.Bool.{true, false, false≢true}
+use mathlib.Core.Bool.{true, false≢true}
 use mathlib.Core.List.{List, [], ◌∷◌}
 use mathlib.Core.Logic.{inl, inr}
 use mathlib.Core.Path.{◌≡◌, refl, sym, ap}

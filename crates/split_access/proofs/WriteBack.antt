@@ -1,7 +1,7 @@
 -- The write-back, from every machine with legal settings whose cells have their widths.
 -- A step's status is what it does not clear and what it raises; gap steps of a machine that stays awake clear nothing, and a half writes back
 -- ones only where the value read shows them. So a bit that is raised stays set. Assumes nothing.
-use mathlib.Core.Bool.{Bool, true, false, not, cond, and-false}
+use mathlib.Core.Bool.{Bool, true, false, cond, and-false}
 use mathlib.Core.List.{List, [], ◌∷◌, ◌++◌}
 use mathlib.Core.Logic.{◌⊎◌, inl, inr, ⊎_elim}
 use mathlib.Core.Path.{◌≡◌, refl, ◌∙◌}

@@ -1,4 +1,3 @@
-use borrow.Author.Rules.{rules}
 use native.Mathlib.Omega.{arith}
 use Rattle.listing.proofs.Laws.{sum_fits, rest-fits}
 use Rattle.text.proofs.Fewest.{at-most-20}

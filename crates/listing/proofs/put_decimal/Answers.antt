@@ -1,4 +1,3 @@
-use borrow.Author.Rules.{rules}
 use Rattle.listing.proofs.Laws.{after-decimal}
 use Rattle.listing.proofs.put_decimal.Goals as goal
 

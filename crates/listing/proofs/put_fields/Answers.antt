@@ -1,4 +1,3 @@
-use borrow.Author.Rules.{rules}
 use Rattle.listing.proofs.Laws.{fields-written}
 use Rattle.listing.proofs.put_fields.Goals as goal
 

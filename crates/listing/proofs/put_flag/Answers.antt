@@ -1,4 +1,3 @@
-use borrow.Author.Rules.{rules}
 use Rattle.listing.proofs.Laws.{after-flag}
 use Rattle.listing.proofs.put_flag.Goals as goal
 

@@ -1,4 +1,3 @@
-use borrow.Author.Rules.{rules}
 use Rattle.listing.proofs.Laws.{tail_written}
 use Rattle.listing.proofs.put_tail.Goals as goal
 

@@ -1,4 +1,3 @@
-use borrow.Author.Rules.{rules}
 use Rattle.listing.proofs.Laws.{after-digits}
 use Rattle.listing.proofs.put_value.Goals as goal
 

@@ -1,6 +1,4 @@
-use borrow.Author.Rules.{rules}
-use native.Mathlib.Omega.{arith}
-use Rattle.listing.proofs.Laws.{room-suffices, put-there, put-nowhere, put-past}
+use Rattle.listing.proofs.Laws.{put-there, put-nowhere}
 use Rattle.listing.proofs.write_entry.Goals as goal
 
 pub returns-then-entry_length-room : goal.returns-then-entry_length-room

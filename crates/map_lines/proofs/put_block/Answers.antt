@@ -1,6 +1,6 @@
 -- `map_lines::put_block` meets its contract: a present block's line is its record's name and its ports, one after the other. Assumes nothing.
-use Rattle.std.proofs.Common.{◌≤◌, sym, ◌∙◌, arith, rules}
-use Rattle.map_lines.proofs.Laws.{record-short, block_written, block-skipped}
+use Rattle.std.proofs.Common.{◌≤◌, sym, ◌∙◌, arith}
+use Rattle.map_lines.proofs.Laws.{record-short, block_written}
 use Rattle.map_lines.proofs.put_block.Goals as goal
 
 pub overflow_add-at : goal.overflow_add-at

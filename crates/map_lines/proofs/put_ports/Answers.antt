@@ -1,6 +1,5 @@
 -- `map_lines::put_ports` meets its contract: its three writes, one after the other, are the fields. Assumes nothing.
 use Rattle.map_lines.proofs.Laws.{ports-written}
-use Rattle.std.proofs.Common.{rules}
 use Rattle.map_lines.proofs.put_ports.Goals as goal
 
 pub returns : goal.returns

@@ -1,8 +1,5 @@
-use Rattle.std.proofs.Common.{◌≡◌, ◌+◌, ◌-◌, ◌*◌, ◌≤◌, length, drop, sym, refl, ap, ◌∙◌, arith, rules}
+use Rattle.std.proofs.Common.{◌≤◌, length, sym, ap, ◌∙◌, arith}
 use lib.Seq.{sets, length-sets}
-use Rattle.platform.specs.FadtBlocks.{block_count, fadt_order, blocks_of}
-use Rattle.platform.specs.declared.settings.Settings.{Settings}
-use Rattle.map_lines.specs.MapText.{text_over, map_text}
 use Rattle.map_lines.proofs.Laws.{block-short, length-turn, write-turn, text-end}
 use Rattle.map_lines.proofs.write_map.Goals as goal
 

@@ -1,11 +1,10 @@
 -- `map_lines::write_map` meets its contract. The loop's invariant: the lines that are left, written into the buffer as it is, give what all of them
 -- give from the start; the place and what is left come to the whole length; and no line is longer than 51 bytes. Assumes nothing.
-use Rattle.std.proofs.Common.{◌≡◌, ◌+◌, ◌-◌, ◌*◌, ◌≤◌, length, drop, sym, refl, ap, ◌∙◌, arith, rules}
-use lib.Seq.{sets, length-sets}
+use Rattle.std.proofs.Common.{◌≡◌, ◌+◌, ◌-◌, ◌*◌, ◌≤◌, length, drop}
+use lib.Seq.{sets}
 use Rattle.platform.specs.FadtBlocks.{block_count, fadt_order, blocks_of}
 use Rattle.platform.specs.declared.settings.Settings.{Settings}
 use Rattle.map_lines.specs.MapText.{text_over, map_text}
-use Rattle.map_lines.proofs.Laws.{block-short, length-turn, write-turn, text-end}
 use Rattle.map_lines.proofs.write_map.Given as goal
 
 -- of the settings whose blocks these are

@@ -1,6 +1,5 @@
 -- `session::any_entries_fit` meets its contract: it is the definition's test. Assumes nothing.
 use native.Mathlib.Omega.{arith}
-use borrow.Author.Rules.{rules}
 use Rattle.text.proofs.Fewest.{at-most-20}
 use Rattle.session.proofs.any_entries_fit.Goals as goal
 

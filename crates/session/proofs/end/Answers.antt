@@ -1,5 +1,4 @@
 use mathlib.Core.Path.{sym, ◌∙◌}
-use borrow.Author.Rules.{rules}
 use Rattle.session.proofs.Laws.{no-end-unread, no-end-refused, end-done}
 use Rattle.session.proofs.end.Goals as goal
 

@@ -1,7 +1,6 @@
 -- `session::entries_fit` meets its contract: in a room that is large enough for any answers the lines fit, and else they are counted. Assumes nothing.
 use mathlib.Core.Path.{sym, ◌∙◌}
 use lib.ListN.{drop}
-use borrow.Author.Rules.{rules}
 use Rattle.text.specs.Parts.{lines_of}
 use Rattle.session.proofs.Laws.{any_fit}
 use Rattle.session.proofs.entries_fit.Goals as goal

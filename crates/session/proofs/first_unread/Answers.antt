@@ -1,14 +1,10 @@
-use borrow.Author.Rules.{rules}
-use Prim.Native.Nat.{◌+◌, ◌-◌, ◌≤◌, ◌<◌}
-use mathlib.Core.Path.{◌≡◌}
+use Prim.Native.Nat.{◌<◌}
 use native.Mathlib.Numerals.{add-one}
 use native.Mathlib.Omega.{arith}
-use lib.ListN.{length, drop}
-use Rattle.text.specs.Parts.{lines_of}
+use lib.ListN.{length}
 use Rattle.text.proofs.Lines.{next-line-further}
-use Rattle.session.proofs.Laws.{read-within, unread-turn, unread-here, unread-end}
-use mathlib.Core.Path.{refl, sym, ◌∙◌}
-use Rattle.session.specs.Session.{first_unread}
+use Rattle.session.proofs.Laws.{unread-turn, unread-here, unread-end}
+use mathlib.Core.Path.{sym, ◌∙◌}
 use Rattle.session.proofs.first_unread.Goals as goal
 
 pub loop-start-smaller : goal.loop-start-smaller

@@ -1,10 +1,9 @@
-use borrow.Author.Rules.{rules}
-use Prim.Native.Nat.{◌-◌, ◌<◌}
-use mathlib.Core.Path.{◌≡◌, refl, sym, ◌∙◌}
+use Prim.Native.Nat.{◌<◌}
+use mathlib.Core.Path.{sym, ◌∙◌}
 use native.Mathlib.Omega.{arith}
 use lib.ListN.{length}
 use Rattle.text.proofs.Lines.{next-line-further}
-use Rattle.session.proofs.Laws.{ended_at, ended-turn, ended-end}
+use Rattle.session.proofs.Laws.{ended-turn, ended-end}
 use Rattle.session.proofs.machine_after.Goals as goal
 
 pub loop-start-smaller : goal.loop-start-smaller

@@ -1,10 +1,7 @@
-use borrow.Author.Rules.{rules}
-use Prim.Native.Nat.{◌-◌, ◌<◌}
-use mathlib.Core.Path.{◌≡◌, refl, sym, ◌∙◌}
-use native.Mathlib.Omega.{arith}
+use Prim.Native.Nat.{◌-◌}
+use mathlib.Core.Path.{◌≡◌}
 use lib.ListN.{length}
-use Rattle.text.proofs.Lines.{next-line-further}
-use Rattle.session.proofs.Laws.{ended_at, ended-turn, ended-end}
+use Rattle.session.proofs.Laws.{ended_at}
 use Rattle.session.proofs.machine_after.Given as goal
 
 abbrev pub invariant-loop-start : goal.invariant-loop-start

@@ -1,5 +1,4 @@
 use Rattle.session.specs.Session.{platform_line_reads}
-use borrow.Author.Rules.{rules}
 use Rattle.session.proofs.platform_line_reads.Goals as goal
 
 pub returns : goal.returns

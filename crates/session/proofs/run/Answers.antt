@@ -1,4 +1,3 @@
-use borrow.Author.Rules.{rules}
 use Rattle.session.proofs.Laws.{line-unread, all_read}
 use Rattle.session.proofs.run.Goals as goal
 

@@ -1,5 +1,4 @@
 use mathlib.Core.Path.{◌∙◌}
-use borrow.Author.Rules.{rules}
 use Rattle.session.proofs.Laws.{end-unread, end-reached}
 use Rattle.session.proofs.run_end.Goals as goal
 

@@ -1,15 +1,13 @@
-use borrow.Author.Rules.{rules}
-use Prim.Native.Nat.{◌+◌, ◌-◌, ◌≤◌, ◌<◌}
-use mathlib.Core.Path.{◌≡◌, ap}
+use Prim.Native.Nat.{◌<◌}
+use mathlib.Core.Path.{ap}
 use native.Mathlib.Numerals.{add-one}
 use native.Mathlib.Omega.{arith}
-use lib.Dec.{leb}
 use lib.ListN.{length}
 use Rattle.text.proofs.Lines.{next-line-further}
 use Rattle.model.specs.declared.Stepped.{Stepped}
 use Rattle.listing.specs.Entry.{entry_length}
-use Rattle.session.proofs.Laws.{entries_at, fit-turn, fit-not, fit-end}
-use mathlib.Core.Path.{refl, sym, ◌∙◌}
+use Rattle.session.proofs.Laws.{fit-turn, fit-not, fit-end}
+use mathlib.Core.Path.{sym, ◌∙◌}
 use Rattle.session.proofs.run_fits.Goals as goal
 
 pub returns-then-left-n : goal.returns-then-left-n

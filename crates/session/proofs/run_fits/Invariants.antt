@@ -1,15 +1,8 @@
-use borrow.Author.Rules.{rules}
-use Prim.Native.Nat.{◌+◌, ◌-◌, ◌≤◌, ◌<◌}
-use mathlib.Core.Path.{◌≡◌, ap}
-use native.Mathlib.Numerals.{add-one}
-use native.Mathlib.Omega.{arith}
+use Prim.Native.Nat.{◌+◌, ◌-◌, ◌≤◌}
+use mathlib.Core.Path.{◌≡◌}
 use lib.Dec.{leb}
 use lib.ListN.{length}
-use Rattle.text.proofs.Lines.{next-line-further}
-use Rattle.model.specs.declared.Stepped.{Stepped}
-use Rattle.listing.specs.Entry.{entry_length}
-use Rattle.session.proofs.Laws.{entries_at, fit-turn, fit-not, fit-end}
-use mathlib.Core.Path.{refl, sym, ◌∙◌}
+use Rattle.session.proofs.Laws.{entries_at}
 use Rattle.session.proofs.run_fits.Given as goal
 
 abbrev pub invariant-loop-start : goal.invariant-loop-start

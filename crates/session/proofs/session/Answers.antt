@@ -1,5 +1,4 @@
 use mathlib.Core.Path.{sym, ◌∙◌}
-use borrow.Author.Rules.{rules}
 use Rattle.session.proofs.Laws.{platform-unread, set-up-refused, set-up-done}
 use Rattle.session.proofs.session.Goals as goal
 

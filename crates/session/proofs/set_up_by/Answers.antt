@@ -1,4 +1,3 @@
-use borrow.Author.Rules.{rules}
 use Rattle.session.proofs.set_up_by.Goals as goal
 
 pub returns : goal.returns

@@ -1,5 +1,4 @@
 use Rattle.session.specs.Session.{step_in}
-use borrow.Author.Rules.{rules}
 use Rattle.session.proofs.step_in.Goals as goal
 
 pub returns-in-Step : goal.returns-in-Step

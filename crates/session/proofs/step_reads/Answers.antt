@@ -1,5 +1,4 @@
 use Rattle.session.specs.Session.{step_reads}
-use borrow.Author.Rules.{rules}
 use Rattle.session.proofs.Laws.{step-read}
 use Rattle.session.proofs.step_reads.Goals as goal
 

@@ -1,6 +1,5 @@
-use borrow.Author.Rules.{rules}
-use Prim.Native.Nat.{◌+◌, ◌-◌, ◌≤◌, ◌<◌}
-use mathlib.Core.Path.{◌≡◌, ap}
+use Prim.Native.Nat.{◌+◌, ◌≤◌, ◌<◌}
+use mathlib.Core.Path.{ap}
 use native.Mathlib.Numerals.{add-one}
 use native.Mathlib.Omega.{arith}
 use lib.ListN.{length}
@@ -9,7 +8,7 @@ use Rattle.text.proofs.Lines.{next-line-further}
 use Rattle.model.specs.declared.Stepped.{Stepped}
 use Rattle.listing.specs.Entry.{entry, entry_length, put_at}
 use Rattle.session.proofs.Laws.{done_at, entries_at, entries-end, entries-length, write-turn, put-length}
-use mathlib.Core.Path.{refl, sym, ◌∙◌}
+use mathlib.Core.Path.{sym, ◌∙◌}
 use Rattle.session.proofs.write_entries.Goals as goal
 
 pub overflow_add-o : goal.overflow_add-o

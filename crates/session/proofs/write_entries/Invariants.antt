@@ -1,15 +1,8 @@
-use borrow.Author.Rules.{rules}
-use Prim.Native.Nat.{◌+◌, ◌-◌, ◌≤◌, ◌<◌}
-use mathlib.Core.Path.{◌≡◌, ap}
-use native.Mathlib.Numerals.{add-one}
-use native.Mathlib.Omega.{arith}
+use Prim.Native.Nat.{◌+◌, ◌-◌, ◌≤◌}
+use mathlib.Core.Path.{◌≡◌}
 use lib.ListN.{length}
 use lib.Seq.{sets}
-use Rattle.text.proofs.Lines.{next-line-further}
-use Rattle.model.specs.declared.Stepped.{Stepped}
-use Rattle.listing.specs.Entry.{entry, entry_length, put_at}
-use Rattle.session.proofs.Laws.{done_at, entries_at, entries-end, entries-length, write-turn, put-length}
-use mathlib.Core.Path.{refl, sym, ◌∙◌}
+use Rattle.session.proofs.Laws.{entries_at}
 use Rattle.session.proofs.write_entries.Given as goal
 
 abbrev pub invariant-loop-start : goal.invariant-loop-start

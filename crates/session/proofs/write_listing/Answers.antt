@@ -1,9 +1,8 @@
 use mathlib.Core.Logic.{inl, inr}
 use lib.ListN.{drop}
 use Rattle.text.specs.Parts.{lines_of}
-use Rattle.session.proofs.Laws.{room_for, listing-written, no_room}
+use Rattle.session.proofs.Laws.{listing-written, no_room}
 use mathlib.Core.Path.{sym, ◌∙◌}
-use borrow.Author.Rules.{rules}
 use Rattle.session.proofs.write_listing.Goals as goal
 
 pub returns-then-entries_fit : goal.returns-then-entries_fit

@@ -1,6 +1,5 @@
 use mathlib.Core.Path.{sym, ◌∙◌}
 use Rattle.script.specs.Fields.{is_below}
-use borrow.Author.Rules.{rules}
 use Rattle.script.proofs.hex_fields.is_below.Goals as goal
 
 pub returns-then-is_hex : goal.returns-then-is_hex

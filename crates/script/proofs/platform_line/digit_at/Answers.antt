@@ -1,7 +1,6 @@
 -- `script::platform_line::digit_at` meets its contract: past the end the byte reads as 0, which shows no digit. Assumes nothing.
 use lib.ListN.{get_or-eq_default}
 use Rattle.text.specs.Numbers.{digit_of}
-use borrow.Author.Rules.{rules}
 use Rattle.script.proofs.platform_line.digit_at.Goals as goal
 
 pub returns-else-i-digits : goal.returns-else-i-digits

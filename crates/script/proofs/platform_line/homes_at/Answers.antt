@@ -3,7 +3,6 @@ use native.Mathlib.Omega.{arith}
 use Rattle.script.proofs.Bounds.{number-below}
 use mathlib.Core.Path.{sym, ◌∙◌}
 use Rattle.script.specs.PlatformLine.{homes_at}
-use borrow.Author.Rules.{rules}
 use Rattle.script.proofs.platform_line.homes_at.Goals as goal
 
 pub overflow_cast-result : goal.overflow_cast-result

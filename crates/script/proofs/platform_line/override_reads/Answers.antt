@@ -1,5 +1,4 @@
 use Rattle.script.specs.PlatformLine.{override_reads}
-use borrow.Author.Rules.{rules}
 use Rattle.script.proofs.platform_line.override_reads.Goals as goal
 
 pub returns : goal.returns

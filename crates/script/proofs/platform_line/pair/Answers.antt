@@ -1,7 +1,6 @@
 -- `script::platform_line::pair` meets its contract: the test is the definition's, and so are the two digits. Assumes nothing.
 use mathlib.Core.Path.{sym, ◌∙◌}
 use Rattle.script.specs.PlatformLine.{pair_of}
-use borrow.Author.Rules.{rules}
 use Rattle.script.proofs.platform_line.pair.Goals as goal
 
 pub returns-then-field_is : goal.returns-then-field_is

@@ -1,5 +1,4 @@
 use Rattle.script.specs.PlatformLine.{platform_reads}
-use borrow.Author.Rules.{rules}
 use Rattle.script.proofs.platform_line.platform_reads.Goals as goal
 
 pub returns : goal.returns

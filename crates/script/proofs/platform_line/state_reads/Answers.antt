@@ -1,6 +1,5 @@
 -- `script::platform_line::state_reads` meets its contract: of two bytes, the test for a number is the test for digits. Assumes nothing.
 use Rattle.script.proofs.Digits.{state}
-use borrow.Author.Rules.{rules}
 use Rattle.script.proofs.platform_line.state_reads.Goals as goal
 
 pub returns : goal.returns

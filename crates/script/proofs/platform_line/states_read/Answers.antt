@@ -1,6 +1,5 @@
 -- `script::platform_line::states_read` meets its contract: its six tests are the definition's, in the same order. Assumes nothing.
 use Rattle.script.specs.PlatformLine.{states_read}
-use borrow.Author.Rules.{rules}
 use Rattle.script.proofs.platform_line.states_read.Goals as goal
 
 pub returns : goal.returns

@@ -1,5 +1,4 @@
 use Rattle.script.specs.StepLine.{access_reads}
-use borrow.Author.Rules.{rules}
 use Rattle.script.proofs.step_line.access_reads.Goals as goal
 
 pub returns : goal.returns

@@ -3,7 +3,6 @@ use native.Mathlib.Omega.{arith}
 use Rattle.script.proofs.Bounds.{number-below}
 use mathlib.Core.Path.{sym, ◌∙◌}
 use Rattle.script.specs.StepLine.{count_line}
-use borrow.Author.Rules.{rules}
 use Rattle.script.proofs.step_line.count_line.Goals as goal
 
 pub overflow_cast-n : goal.overflow_cast-n

@@ -2,7 +2,6 @@
 use borrow.Author.Tests.{ne_eqb}
 use mathlib.Core.Path.{sym, ◌∙◌}
 use Rattle.script.specs.StepLine.{line_of}
-use borrow.Author.Rules.{rules}
 use Rattle.script.proofs.step_line.line_of.Goals as goal
 
 pub returns-then-count-eq1 : goal.returns-then-count-eq1

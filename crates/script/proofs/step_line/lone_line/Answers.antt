@@ -1,6 +1,5 @@
 use mathlib.Core.Path.{sym, ◌∙◌}
 use Rattle.script.specs.StepLine.{lone_line}
-use borrow.Author.Rules.{rules}
 use Rattle.script.proofs.step_line.lone_line.Goals as goal
 
 pub returns-then-same : goal.returns-then-same

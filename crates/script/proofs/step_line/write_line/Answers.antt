@@ -3,7 +3,6 @@ use native.Mathlib.Omega.{arith}
 use Rattle.script.proofs.Bounds.{width-below}
 use mathlib.Core.Path.{sym, ◌∙◌}
 use Rattle.script.specs.StepLine.{write_line}
-use borrow.Author.Rules.{rules}
 use Rattle.script.proofs.step_line.write_line.Goals as goal
 
 pub overflow_cast-access : goal.overflow_cast-access
