@@ -16,6 +16,7 @@ fn wide(x: u32) -> u64
 }
 
 // A text read once more; its answer's number and its machine's counter are added.
+#[tactic(auto, unfolding(crate::specs::Texts::read_turn))]
 fn read_turn(text: &[u8], sum: u64) -> u64
     ensures { result ≡ read_turn text.now sum }
 {
@@ -49,6 +50,7 @@ fn counting(m: Machine, sum: u64) -> Machine
 }
 
 // Its text written once more; the answer's number and value are added.
+#[tactic(auto, unfolding(crate::specs::Texts::write_turn))]
 fn write_turn(m: Machine, buf: &mut [u8], sum: u64) -> u64
     ensures { (result ≡ write_turn m (length buf.old) sum) × (buf.new ≡ written_buffer (counting m sum) buf.old) }
 {

@@ -9,6 +9,7 @@ ghost use Rattle.speed_session.specs.Sessions.{session_turn, sum_after, buffers_
 use std::num::wrapping_add_u64;
 
 // A session once more; its answer's number and value are added.
+#[tactic(auto, unfolding(crate::specs::Sessions::session_turn))]
 fn session_turn(table: &[u8], script: &[u8], buf: &mut [u8], sum: u64) -> u64
     ensures { (result ≡ session_turn table.now script.now (length buf.old) sum) × (buf.new ≡ buffer_after table.now script.now buf.old) }
 {

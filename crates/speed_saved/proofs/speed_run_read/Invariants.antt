@@ -1,0 +1,12 @@
+-- `speed_saved::speed_run_read` meets its contract. The loop's invariant: the turns that are left, from the sum as it is, give what all of them give from
+-- zero. Assumes nothing.
+use Rattle.std.proofs.Common.{◌≡◌, suc, ◌-◌, sym, refl, ◌∙◌, arith, rules}
+use Rattle.speed_saved.specs.Texts.{reads_of}
+use Rattle.speed_saved.proofs.Laws.{reads-turn, reads_end}
+use Rattle.speed_saved.proofs.speed_run_read.Given as goal
+
+abbrev pub invariant-loop-left : goal.invariant-loop-left
+invariant-loop-left l = reads_of l.text l.left l.sum ≡ reads_of l.text l.n 0
+
+abbrev pub decreases-loop-left : goal.decreases-loop-left
+decreases-loop-left l = l.left
