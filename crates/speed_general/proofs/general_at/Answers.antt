@@ -1,6 +1,6 @@
 -- `speed_general::general_at` meets its contract: each arm is what the list has at its place, and past the last place there is the default.
 -- Assumes nothing.
-use Rattle.std.proofs.Common.{◌≤◌, sym, ◌∙◌, zero-le, rules}
+use Rattle.std.proofs.Common.{◌≤◌, sym, ◌∙◌, zero-le}
 use lib.ListN.{get_or-eq_default}
 use Rattle.speed_general.specs.GeneralRound.{write_at, general, general_at}
 use Rattle.speed_runs.proofs.Places.{past}

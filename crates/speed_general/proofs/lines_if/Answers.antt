@@ -1,5 +1,5 @@
 use Rattle.speed_general.specs.GeneralRound.{lines_if}
-use Rattle.std.proofs.Common.{rules, ne_eqb}
+use Rattle.std.proofs.Common.{ne_eqb}
 use Rattle.speed_general.proofs.lines_if.Goals as goal
 
 pub returns-then-k-eq3 : goal.returns-then-k-eq3

@@ -1,5 +1,4 @@
-use Rattle.std.proofs.Common.{◌≡◌, suc, ◌-◌, sym, refl, ◌∙◌, arith, rules}
-use Rattle.speed_general.specs.LinesAlone.{lines_turns}
+use Rattle.std.proofs.Common.{◌≡◌, suc, ◌-◌, sym, ◌∙◌, arith}
 use Rattle.speed_general.proofs.Laws.{lines-turn, lines_end}
 use Rattle.speed_general.proofs.lines_turns.Goals as goal
 

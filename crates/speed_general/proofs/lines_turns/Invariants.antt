@@ -1,8 +1,7 @@
 -- `speed_general::lines_turns` meets its contract. The loop's invariant: the turns that are left, from the run as it is, give what all of them give from the
 -- start. Assumes nothing.
-use Rattle.std.proofs.Common.{◌≡◌, suc, ◌-◌, sym, refl, ◌∙◌, arith, rules}
+use Rattle.std.proofs.Common.{◌≡◌}
 use Rattle.speed_general.specs.LinesAlone.{lines_turns}
-use Rattle.speed_general.proofs.Laws.{lines-turn, lines_end}
 use Rattle.speed_general.proofs.lines_turns.Given as goal
 
 abbrev pub invariant-loop-left : goal.invariant-loop-left

@@ -1,5 +1,5 @@
 use Rattle.speed_general.specs.GeneralRound.{next_place}
-use Rattle.std.proofs.Common.{rules, le-ltb, lt-ltb}
+use Rattle.std.proofs.Common.{le-ltb, lt-ltb}
 use Rattle.speed_general.proofs.next_place.Goals as goal
 
 pub returns-then-k-lt3 : goal.returns-then-k-lt3

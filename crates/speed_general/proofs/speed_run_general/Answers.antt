@@ -1,5 +1,4 @@
 use Rattle.speed_general.specs.GeneralRound.{general_run}
-use Rattle.std.proofs.Common.{rules}
 use Rattle.speed_general.proofs.speed_run_general.Goals as goal
 
 pub returns : goal.returns

@@ -1,5 +1,4 @@
 use Rattle.speed_general.specs.LinesAlone.{lines_run}
-use Rattle.std.proofs.Common.{rules}
 use Rattle.speed_general.proofs.speed_run_lines.Goals as goal
 
 pub returns : goal.returns

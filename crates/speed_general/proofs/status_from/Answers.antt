@@ -1,4 +1,4 @@
-use Rattle.std.proofs.Common.{refl, rules}
+use Rattle.std.proofs.Common.{refl}
 use Rattle.speed_general.specs.LinesAlone.{status_from}
 use Rattle.speed_general.proofs.status_from.Goals as goal
 

@@ -1,5 +1,4 @@
-use Rattle.std.proofs.Common.{◌≡◌, suc, ◌-◌, sym, refl, ◌∙◌, arith, rules}
-use Rattle.speed_general.specs.GeneralRound.{general_steps}
+use Rattle.std.proofs.Common.{◌≡◌, suc, ◌-◌, sym, ◌∙◌, arith}
 use Rattle.speed_general.proofs.Laws.{steps-turn, steps-end}
 use Rattle.speed_general.proofs.steps.Goals as goal
 

@@ -1,5 +1,4 @@
-use Rattle.std.proofs.Common.{◌≡◌, suc, ◌-◌, sym, refl, ◌∙◌, arith, rules}
-use Rattle.speed_saved.specs.Texts.{reads_of}
+use Rattle.std.proofs.Common.{◌≡◌, suc, ◌-◌, sym, ◌∙◌, arith}
 use Rattle.speed_saved.proofs.Laws.{reads-turn, reads_end}
 use Rattle.speed_saved.proofs.speed_run_read.Goals as goal
 

@@ -1,8 +1,7 @@
 -- `speed_saved::speed_run_read` meets its contract. The loop's invariant: the turns that are left, from the sum as it is, give what all of them give from
 -- zero. Assumes nothing.
-use Rattle.std.proofs.Common.{◌≡◌, suc, ◌-◌, sym, refl, ◌∙◌, arith, rules}
+use Rattle.std.proofs.Common.{◌≡◌}
 use Rattle.speed_saved.specs.Texts.{reads_of}
-use Rattle.speed_saved.proofs.Laws.{reads-turn, reads_end}
 use Rattle.speed_saved.proofs.speed_run_read.Given as goal
 
 abbrev pub invariant-loop-left : goal.invariant-loop-left

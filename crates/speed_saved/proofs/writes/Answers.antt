@@ -1,5 +1,5 @@
-use Rattle.std.proofs.Common.{◌≡◌, suc, ◌-◌, length, sym, refl, ap, ◌∙◌, arith, rules}
-use Rattle.speed_saved.specs.Texts.{writes_of, buffer_after, counting}
+use Rattle.std.proofs.Common.{◌≡◌, suc, ◌-◌, length, sym, ap, ◌∙◌, arith}
+use Rattle.speed_saved.specs.Texts.{counting}
 use Rattle.speed_saved.proofs.Laws.{writes-turn, writes_end, buffer-turn, buffer-end, written-length}
 use Rattle.speed_saved.proofs.writes.Goals as goal
 

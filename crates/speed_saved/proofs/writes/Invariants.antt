@@ -1,8 +1,7 @@
 -- `speed_saved::writes` meets its contract. The loop's invariant: the turns that are left, from the sum and the buffer as they are, give what all of them
 -- give from the start, and the buffer keeps its length. Assumes nothing.
-use Rattle.std.proofs.Common.{◌≡◌, suc, ◌-◌, length, sym, refl, ap, ◌∙◌, arith, rules}
-use Rattle.speed_saved.specs.Texts.{writes_of, buffer_after, counting}
-use Rattle.speed_saved.proofs.Laws.{writes-turn, writes_end, buffer-turn, buffer-end, written-length}
+use Rattle.std.proofs.Common.{◌≡◌, length}
+use Rattle.speed_saved.specs.Texts.{writes_of, buffer_after}
 use Rattle.speed_saved.proofs.writes.Given as goal
 
 abbrev pub invariant-loop-left : goal.invariant-loop-left

@@ -1,5 +1,4 @@
-use Rattle.std.proofs.Common.{◌≡◌, suc, ◌-◌, length, sym, refl, ap, ◌∙◌, arith, rules}
-use Rattle.speed_session.specs.Sessions.{sum_after, buffers_after}
+use Rattle.std.proofs.Common.{◌≡◌, suc, ◌-◌, length, sym, ap, ◌∙◌, arith}
 use Rattle.speed_session.proofs.Laws.{sum-turn, sum-end, buffers-turn, buffers-end, buffer-length}
 use Rattle.speed_session.proofs.speed_run_session.Goals as goal
 

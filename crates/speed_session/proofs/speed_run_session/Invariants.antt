@@ -1,8 +1,7 @@
 -- `speed_session::speed_run_session` meets its contract. The loop's invariant: the sessions that are left, from the sum and the buffer as they are, give what
 -- all of them give from the start. Assumes nothing.
-use Rattle.std.proofs.Common.{◌≡◌, suc, ◌-◌, length, sym, refl, ap, ◌∙◌, arith, rules}
+use Rattle.std.proofs.Common.{◌≡◌, length}
 use Rattle.speed_session.specs.Sessions.{sum_after, buffers_after}
-use Rattle.speed_session.proofs.Laws.{sum-turn, sum-end, buffers-turn, buffers-end, buffer-length}
 use Rattle.speed_session.proofs.speed_run_session.Given as goal
 
 abbrev pub invariant-loop-left : goal.invariant-loop-left

@@ -1,5 +1,5 @@
 use Rattle.speed_steps.specs.Rows.{lines_if}
-use Rattle.std.proofs.Common.{rules, ne_eqb}
+use Rattle.std.proofs.Common.{ne_eqb}
 use Rattle.speed_steps.proofs.lines_if.Goals as goal
 
 pub returns-then-k-eq4 : goal.returns-then-k-eq4

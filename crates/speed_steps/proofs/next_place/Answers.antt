@@ -1,5 +1,5 @@
 use Rattle.speed_steps.specs.Rows.{next_place}
-use Rattle.std.proofs.Common.{rules, le-ltb, lt-ltb}
+use Rattle.std.proofs.Common.{le-ltb, lt-ltb}
 use Rattle.speed_steps.proofs.next_place.Goals as goal
 
 pub returns-then-k-last : goal.returns-then-k-last

@@ -1,6 +1,6 @@
 -- `speed_steps::sleep_at` meets its contract: each arm is what the list has at its place, and past the last place there is the default.
 -- Assumes nothing.
-use Rattle.std.proofs.Common.{◌≤◌, sym, ◌∙◌, zero-le, rules}
+use Rattle.std.proofs.Common.{◌≤◌, sym, ◌∙◌, zero-le}
 use lib.ListN.{get_or-eq_default}
 use Rattle.speed_steps.specs.Rows.{write_at, sleep, sleep_at}
 use Rattle.speed_runs.proofs.Places.{past}

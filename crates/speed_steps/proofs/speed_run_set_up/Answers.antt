@@ -1,5 +1,4 @@
-use Rattle.std.proofs.Common.{◌≡◌, suc, ◌-◌, sym, refl, ◌∙◌, arith, rules}
-use Rattle.speed_steps.specs.SetUps.{set_ups_of}
+use Rattle.std.proofs.Common.{◌≡◌, suc, ◌-◌, sym, ◌∙◌, arith}
 use Rattle.speed_steps.proofs.Laws.{set-ups-turn, set-ups-end}
 use Rattle.speed_steps.proofs.speed_run_set_up.Goals as goal
 

@@ -1,5 +1,4 @@
 use Rattle.speed_steps.specs.Rows.{steps_run}
-use Rattle.std.proofs.Common.{rules}
 use Rattle.speed_steps.proofs.speed_run_steps.Goals as goal
 
 pub returns : goal.returns

@@ -1,5 +1,4 @@
 use Rattle.speed_steps.specs.Rows.{step_at}
-use Rattle.std.proofs.Common.{rules}
 use Rattle.speed_steps.proofs.step_at.Goals as goal
 
 pub returns-in-StatusRead : goal.returns-in-StatusRead

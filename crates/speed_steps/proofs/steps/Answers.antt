@@ -1,5 +1,4 @@
-use Rattle.std.proofs.Common.{◌≡◌, suc, ◌-◌, sym, refl, ◌∙◌, arith, rules}
-use Rattle.speed_steps.specs.Rows.{run_steps}
+use Rattle.std.proofs.Common.{◌≡◌, suc, ◌-◌, sym, ◌∙◌, arith}
 use Rattle.speed_steps.proofs.Laws.{steps-turn, steps-end}
 use Rattle.speed_steps.proofs.steps.Goals as goal
 

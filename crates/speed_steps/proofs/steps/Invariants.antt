@@ -1,8 +1,7 @@
 -- `speed_steps::steps` meets its contract. The loop's invariant: the steps that are left, from the place and the run as they are, give what all of them
 -- give from the start. Assumes nothing.
-use Rattle.std.proofs.Common.{◌≡◌, suc, ◌-◌, sym, refl, ◌∙◌, arith, rules}
+use Rattle.std.proofs.Common.{◌≡◌}
 use Rattle.speed_steps.specs.Rows.{run_steps}
-use Rattle.speed_steps.proofs.Laws.{steps-turn, steps-end}
 use Rattle.speed_steps.proofs.steps.Given as goal
 
 abbrev pub invariant-loop-left : goal.invariant-loop-left

@@ -1,6 +1,6 @@
 -- The fields left, set in the table as it is, give what all of them give in the table as it was.
-use Rattle.std.proofs.Common.{◌≡◌, ℕ, ◌+◌, ◌-◌, ◌<◌, ◌≤◌, List, [], length, get_or, drop, sym, refl, ap, ◌∙◌, add-one, arith, drop_of_length-le, drop-cons, rules}
-use Rattle.test_tables.specs.Tables.{field_set, filled_of}
+use Rattle.std.proofs.Common.{◌≡◌, ◌-◌, length, drop}
+use Rattle.test_tables.specs.Tables.{filled_of}
 use Rattle.test_tables.proofs.tables.filled.Given as goal
 
 abbrev pub invariant-loop-i : goal.invariant-loop-i

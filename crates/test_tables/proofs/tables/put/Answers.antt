@@ -1,4 +1,4 @@
-use Rattle.std.proofs.Common.{sym, ◌∙◌, rules, le-ltb, lt-ltb}
+use Rattle.std.proofs.Common.{sym, ◌∙◌, le-ltb, lt-ltb}
 use Rattle.test_tables.specs.Tables.{field_set}
 use Rattle.test_tables.proofs.tables.put.Goals as goal
 

@@ -1,5 +1,5 @@
 -- The total is the sum of the bytes passed, modulo 256.
-use Rattle.std.proofs.Common.{◌≡◌, ℕ, ◌+◌, ◌-◌, ◌%◌, ◌<◌, List, [], ◌∷◌, ◌++◌, length, get_or, take, refl, ap, ◌∙◌, add-one, arith, take_all, take-suc, rules}
+use Rattle.std.proofs.Common.{◌≡◌, ◌-◌, ◌%◌, length, take}
 use Rattle.test_tables.specs.Tables.{sum}
 use Rattle.test_tables.proofs.tables.sum_all.Given as goal
 

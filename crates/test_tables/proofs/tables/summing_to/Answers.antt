@@ -1,5 +1,4 @@
 use Rattle.test_tables.specs.Tables.{summing_to}
-use Rattle.std.proofs.Common.{rules}
 use Rattle.test_tables.proofs.tables.summing_to.Goals as goal
 
 pub returns : goal.returns
