@@ -43,7 +43,7 @@ const USAGE: &str =
        tests/compare --find      the first seed or text that finds each fault
        tests/compare --states SEED N [FOLDER]
                                  N saved texts, damaged or not, and what the model answers to each
-BENCH names another bench than target/bin/bench; why, save, resume and port_map stand beside it.";
+BENCH names another bench than crates/bench/out/bench; why, save, resume and port_map stand beside it.";
 
 /// The project's folder, the programs, a run's saved texts, and a temporary folder for each worker.
 pub struct Places {

@@ -94,16 +94,20 @@ pub struct Programs {
 }
 
 impl Programs {
-    /// Those of the repository, or where BENCH says; the others stand beside `bench`.
+    /// Those of the repository, or where BENCH says: then the others stand beside that `bench`.
     pub fn of(root: &Path) -> Programs {
-        let bench = std::env::var_os("BENCH").map_or(root.join("target/bin/bench"), PathBuf::from);
-        let beside = |name: &str| bench.with_file_name(name);
+        let other = std::env::var_os("BENCH").map(PathBuf::from);
+        let named = |name: &str| match &other {
+            Some(bench) if name == "bench" => bench.clone(),
+            Some(bench) => bench.with_file_name(name),
+            None => root.join(format!("crates/{name}/out/{name}")),
+        };
         Programs {
-            resume: beside("resume"),
-            why: beside("why"),
-            save: beside("save"),
-            port_map: beside("port_map"),
-            bench,
+            bench: named("bench"),
+            resume: named("resume"),
+            why: named("why"),
+            save: named("save"),
+            port_map: named("port_map"),
         }
     }
 
