@@ -1,5 +1,5 @@
-//! The proved loops of `crates/speed_steps`, `crates/speed_general`, `crates/speed_called`, `crates/speed_session` and
-//! `crates/speed_saved`, as `rt staticlib` exports them. A slice is its address and its length.
+//! The proved loops of `crates/speed_steps_c`, `crates/speed_general_c`, `crates/speed_called`, `crates/speed_session` and
+//! `crates/speed_saved`, as their archives export them. A slice is its address and its length.
 
 mod exported {
     extern "C" {
