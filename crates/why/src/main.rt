@@ -28,12 +28,14 @@ fn script_buffer() -> [u8; LIMIT + 1]
 
 fn main(rt: HostRuntime) {
     let mut input = rt.stdin();
-    let Ok(mut file) = File::open(&rt, "platform.fadt") else {
+    let opened = File::open(&rt, "platform.fadt");
+    if opened.is_err() {
         without_table(&rt, &mut input);
         return;
-    };
+    }
+    // The file is closed before the script is read.
     let mut table = files::large_buffer();
-    let table_length = files::read_full(&mut file, &mut table);
+    let table_length = files::read_opened(opened, &mut table);
     let mut script = script_buffer();
     let script_length = files::read_full(&mut input, &mut script);
     if !at_end(&mut input, script_length) {
@@ -48,12 +50,13 @@ fn main(rt: HostRuntime) {
 }
 
 fn without_table(rt: &(impl Files + Print), input: &mut impl Read) {
-    let Ok(mut file) = File::open(rt, "state") else {
+    let opened = File::open(rt, "state");
+    if opened.is_err() {
         say::say(rt, b"the file platform.fadt does not open\n");
         return;
-    };
+    }
     let mut text = script_buffer();
-    let text_length = files::read_full(&mut file, &mut text);
+    let text_length = files::read_opened(opened, &mut text);
     let mut steps = script_buffer();
     let steps_length = files::read_full(input, &mut steps);
     if !at_end(input, steps_length) {
