@@ -13,10 +13,10 @@ use Rattle.text.specs.Numbers.{digits, digit_count}
 use Rattle.text.specs.Parts.{tab, lf}
 use Rattle.text.proofs.Digits.{digits-length}
 use Rattle.text.proofs.Stores.{two-writes}
-use Rattle.listing.specs.Entry.{decimal, flag, state_digit, state_text, tail, fields, entry, entry_length, put_at}
+use Rattle.listing.specs.Entry.{decimal, flag, state_digit, state_text, tail, fields, entry_of, text_of, entry, entry_length, put_at}
+use Rattle.listing.specs.declared.Entry.{Entry}
 use Rattle.machine.specs.declared.Machine.{Machine}
-use Rattle.machine.specs.Lines.{sci_of, smi_of}
-use Rattle.model.specs.Answer.{step_number, step_value}
+use Rattle.model.specs.Answer.{step_number}
 use Rattle.model.specs.declared.Answer.{Answer}
 
 -- digits, and a text after them
@@ -101,12 +101,11 @@ module _ (k : ℕ) (a : Answer) (at : ℕ) where
   room-suffices room number len e n p q r = rw n (omega (arith, e, p, q, r))
 
   module _ (m : Machine) (l : List ℕ) (len : ℕ) (e : len ≡ entry_length k a) where
-    pub put-there : (number value : ℕ) (sci smi : Bool) (exit : List ℕ) → at ≤ length l → len ≤ length l - at
-        → number ≡ step_number a → value ≡ step_value a → sci ≡ sci_of m → smi ≡ smi_of m
-        → exit ≡ sets l at (fields k number value sci smi m.state) → exit ≡ put_at l at (entry k a m)
-    put-there number value sci smi exit p q n v s i w =
+    pub put-there : (line : Entry) (exit : List ℕ) → at ≤ length l → len ≤ length l - at → line ≡ entry_of k a m
+        → exit ≡ sets l at (text_of line) → exit ≡ put_at l at (entry k a m)
+    put-there line exit p q s w =
         let fit : at + length (entry k a m) ≤ length l = omega (arith, e, entry_length_lem k a m, p, q) in
-        rw (le-leb _ _ fit, ← n, ← v, ← s, ← i) w
+        rw (le-leb _ _ fit) (w ∙ ap (λ (x : Entry). sets l at (text_of x)) s)
 
     pub put-nowhere : at ≤ length l → length l - at < len → l ≡ put_at l at (entry k a m)
     put-nowhere p q = rw (lt-leb (at + length (entry k a m)) (length l) (omega (arith, e, entry_length_lem k a m, p, q))) refl

@@ -7,6 +7,7 @@ use Rattle.machine.specs.Lines.{sci_of, smi_of}
 use Rattle.machine.specs.declared.Machine.{Machine}
 use Rattle.model.specs.Answer.{step_number, step_value}
 use Rattle.model.specs.declared.Answer.{Answer}
+use Rattle.listing.specs.declared.Entry.{Entry}
 
 -- the header: "step", "answer", "value", "sci", "smi", "state"
 abbrev pub header : List ℕ
@@ -41,6 +42,13 @@ tail value sci smi state = digits 16 8 value ++ (tab ∷ (flag sci ++ (tab ∷ (
 -- a line's fields
 unfoldable pub fields : ℕ → ℕ → ℕ → Bool → Bool → ℕ → List ℕ
 fields k number value sci smi state = decimal k ++ (tab ∷ (decimal number ++ (tab ∷ tail value sci smi state)))
+
+-- what a line says: the step's number, its answer and value, and SCI, SMI and the state after it
+abbrev pub entry_of : ℕ → Answer → Machine → Entry
+entry_of k a m = record { step = k; number = step_number a; value = step_value a; sci = sci_of m; smi = smi_of m; state = m.state }
+
+abbrev pub text_of : Entry → List ℕ
+text_of e = fields e.step e.number e.value e.sci e.smi e.state
 
 -- a line: the step's number, its answer and value, and SCI, SMI and the state after it
 abbrev pub entry : ℕ → Answer → Machine → List ℕ

@@ -5,7 +5,7 @@ ghost use Rattle.std.specs.Prelude.{◌≡◌, [], ◌∷◌, ◌++◌, ◌+◌,
 ghost use Rattle.std.proofs.lemmas.List.Edits.{sets};
 ghost use Rattle.text.specs.Numbers.{digits, digit_count};
 ghost use Rattle.text.specs.Parts.{tab, lf};
-ghost use Rattle.listing.specs.Entry.{header, decimal, flag, state_digit, state_text, tail, fields, entry, entry_length, put_at};
+ghost use Rattle.listing.specs.Entry.{header, decimal, flag, state_digit, state_text, tail, entry_of, text_of, entry, entry_length, put_at};
 
 use bits::pick64;
 use machine::Machine;
@@ -62,14 +62,60 @@ fn put_state(buf: &mut [u8], at: usize, state: u8)
     write_byte(buf, at + 2, LF);
 }
 
-fn put_tail(buf: &mut [u8], at: usize, value: u32, sci: bool, smi: bool, state: u8)
-    requires { at + 16 < 2 ^ 64 }
-    ensures { buf.new ≡ sets buf.old at (tail value sci smi state) }
-{
-    put_value(buf, at, value);
-    put_flag(buf, at + 9, sci);
-    put_flag(buf, at + 11, smi);
-    put_state(buf, at + 13, state);
+// What a line says: the step's number, its answer's number and value, and SCI, SMI and the state after it.
+#[derive(Clone, Copy, Debug, PartialEq, Eq)]
+struct Entry {
+    step: u64,
+    number: u64,
+    value: u32,
+    sci: bool,
+    smi: bool,
+    state: u8,
+}
+
+impl Entry {
+    fn new(step: u64, answer: Answer, m: Machine) -> Entry
+        ensures { result ≡ entry_of step answer m }
+    {
+        Entry {
+            step,
+            number: model::number(answer) as u64,
+            value: model::value(answer),
+            sci: machine::sci(m),
+            smi: machine::smi(m),
+            state: m.state,
+        }
+    }
+
+    // From the value on.
+    fn put_tail(self, buf: &mut [u8], at: usize)
+        requires { at + 16 < 2 ^ 64 }
+        ensures { buf.new ≡ sets buf.old at (tail self.value self.sci self.smi self.state) }
+    {
+        put_value(buf, at, self.value);
+        put_flag(buf, at + 9, self.sci);
+        put_flag(buf, at + 11, self.smi);
+        put_state(buf, at + 13, self.state);
+    }
+
+    // All of it; the second and the third field begin at these places.
+    fn put_fields(self, buf: &mut [u8], at: usize, second: usize, third: usize)
+        requires { (second ≡ at + (digit_count 10 self.step + 1)) × (third ≡ second + (digit_count 10 self.number + 1)) × (third + 16 < 2 ^ 64) }
+        ensures { buf.new ≡ sets buf.old at (text_of self) }
+    {
+        put_decimal(buf, at, self.step);
+        put_decimal(buf, second, self.number);
+        self.put_tail(buf, third);
+    }
+
+    fn put(self, buf: &mut [u8], at: usize)
+        requires { at + (digit_count 10 self.step + digit_count 10 self.number + 18) < 2 ^ 64 }
+        ensures { buf.new ≡ sets buf.old at (text_of self) }
+    {
+        let second = at + (decimal_digits(self.step) + 1);
+        let third = second + (decimal_digits(self.number) + 1);
+        self.put_fields(buf, at, second, third);
+    }
 }
 
 pub fn entry_length(k: u64, answer: Answer) -> usize
@@ -78,58 +124,14 @@ pub fn entry_length(k: u64, answer: Answer) -> usize
     decimal_digits(k) + decimal_digits(model::number(answer) as u64) + 18
 }
 
-// A line's fields; the second and the third begin at these places.
-fn put_fields(
-    buf: &mut [u8],
-    at: usize,
-    second: usize,
-    third: usize,
-    k: u64,
-    number: u64,
-    value: u32,
-    sci: bool,
-    smi: bool,
-    state: u8,
-)
-    requires { (second ≡ at + (digit_count 10 k + 1)) × (third ≡ second + (digit_count 10 number + 1)) × (third + 16 < 2 ^ 64) }
-    ensures { buf.new ≡ sets buf.old at (fields k number value sci smi state) }
-{
-    put_decimal(buf, at, k);
-    put_decimal(buf, second, number);
-    put_tail(buf, third, value, sci, smi, state);
-}
-
-fn put_at(
-    buf: &mut [u8],
-    at: usize,
-    k: u64,
-    number: u64,
-    value: u32,
-    sci: bool,
-    smi: bool,
-    state: u8,
-)
-    requires { at + (digit_count 10 k + digit_count 10 number + 18) < 2 ^ 64 }
-    ensures { buf.new ≡ sets buf.old at (fields k number value sci smi state) }
-{
-    let second = at + (decimal_digits(k) + 1);
-    let third = second + (decimal_digits(number) + 1);
-    put_fields(buf, at, second, third, k, number, value, sci, smi, state);
-}
-
 // The line of a step, where it fits; else nothing is written.
 pub fn write_entry(buf: &mut [u8], at: usize, k: u64, answer: Answer, m: Machine)
     ensures { buf.new ≡ put_at buf.old at (entry k answer m) }
 {
     let room = buf.len();
-    let number = model::number(answer) as u64;
-    let value = model::value(answer);
-    let sci = machine::sci(m);
-    let smi = machine::smi(m);
-    let state = m.state;
     if at <= room {
         if entry_length(k, answer) <= room - at {
-            put_at(buf, at, k, number, value, sci, smi, state);
+            Entry::new(k, answer, m).put(buf, at);
         }
     }
 }

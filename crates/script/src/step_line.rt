@@ -6,72 +6,65 @@ use crate::hex_fields::is_below;
 use model::{Access, Event, Step};
 use text::{field, field_count, field_is, hex_value, is_hex, same};
 
-// What a line says: a step, or nothing that reads.
-#[derive(Clone, Copy)]
-pub enum Line {
-    Step(Step),
-    Unread,
-}
-
-fn lone_line(word: &[u8]) -> Line
+fn lone_line(word: &[u8]) -> Option<Step>
     ensures { result ≡ lone_line word.now }
 {
     if same(word, b"press") {
-        return Line::Step(Step::Event(Event::Press));
+        return Some(Step::Event(Event::Press));
     }
     if same(word, b"release") {
-        return Line::Step(Step::Event(Event::Release));
+        return Some(Step::Event(Event::Release));
     }
     if same(word, b"sleep") {
-        return Line::Step(Step::Event(Event::SleepPress));
+        return Some(Step::Event(Event::SleepPress));
     }
     if same(word, b"alarm") {
-        return Line::Step(Step::Event(Event::Alarm));
+        return Some(Step::Event(Event::Alarm));
     }
     if same(word, b"master") {
-        return Line::Step(Step::Event(Event::BusMaster));
+        return Some(Step::Event(Event::BusMaster));
     }
     if same(word, b"unlock") {
-        return Line::Step(Step::Event(Event::Unlock));
+        return Some(Step::Event(Event::Unlock));
     }
     if same(word, b"take") {
-        return Line::Step(Step::Take);
+        return Some(Step::Take);
     }
     if same(word, b"drop") {
-        return Line::Step(Step::Drop);
+        return Some(Step::Drop);
     }
-    Line::Unread
+    None
 }
 
 // "pin 1", "pin 0".
-fn pin_line(digit: &[u8]) -> Line
+fn pin_line(digit: &[u8]) -> Option<Step>
     ensures { result ≡ pin_line digit.now }
 {
     if same(digit, b"1") {
-        return Line::Step(Step::Event(Event::PinActive));
+        return Some(Step::Event(Event::PinActive));
     }
     if same(digit, b"0") {
-        return Line::Step(Step::Event(Event::PinInactive));
+        return Some(Step::Event(Event::PinInactive));
     }
-    Line::Unread
+    None
 }
 
 // "event N", "tick N".
-fn count_line(line: &[u8]) -> Line
+fn count_line(line: &[u8]) -> Option<Step>
     ensures { result ≡ count_line line.now }
 {
     let digits = field(line, 1);
     if is_below(digits, 0x100000000) {
         let n = hex_value(digits) as u32;
         if field_is(line, 0, b"event") {
-            return Line::Step(Step::Event(Event::General(n)));
+            return Some(Step::Event(Event::General(n)));
         }
         if field_is(line, 0, b"tick") {
-            return Line::Step(Step::Event(Event::Ticks(n)));
+            return Some(Step::Event(Event::Ticks(n)));
         }
-        return Line::Unread;
+        return None;
     }
-    Line::Unread
+    None
 }
 
 fn access_reads(port: &[u8], width: &[u8]) -> bool
@@ -81,24 +74,24 @@ fn access_reads(port: &[u8], width: &[u8]) -> bool
 }
 
 // "r PORT WIDTH".
-fn read_line(line: &[u8]) -> Line
+fn read_line(line: &[u8]) -> Option<Step>
     ensures { result ≡ read_line line.now }
 {
     if field_is(line, 0, b"r") {
         let port = field(line, 1);
         let width = field(line, 2);
         if access_reads(port, width) {
-            return Line::Step(Step::Read(Access {
+            return Some(Step::Read(Access {
                 port: hex_value(port),
                 width: hex_value(width) as u32,
             }));
         }
     }
-    Line::Unread
+    None
 }
 
 // "w PORT WIDTH DATA".
-fn write_line(line: &[u8]) -> Line
+fn write_line(line: &[u8]) -> Option<Step>
     ensures { result ≡ write_line line.now }
 {
     if field_is(line, 0, b"w") {
@@ -111,15 +104,15 @@ fn write_line(line: &[u8]) -> Line
                     port: hex_value(port),
                     width: hex_value(width) as u32,
                 };
-                return Line::Step(Step::Write(access, hex_value(written)));
+                return Some(Step::Write(access, hex_value(written)));
             }
         }
     }
-    Line::Unread
+    None
 }
 
 // What a line after the first says.
-pub fn line_of(line: &[u8]) -> Line
+pub fn line_of(line: &[u8]) -> Option<Step>
     ensures { result ≡ line_of line.now }
 {
     let count = field_count(line);
@@ -138,5 +131,5 @@ pub fn line_of(line: &[u8]) -> Line
     if count == 4 {
         return write_line(line);
     }
-    Line::Unread
+    None
 }

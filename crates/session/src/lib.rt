@@ -14,7 +14,7 @@ use listing::{HEADER_LENGTH, entry_length, write_entry, write_header};
 use machine::{Machine, SetUp, all_zero};
 use model::{Step, Stepped};
 use platform::{SetUpAnswer, SetUpRefusal};
-use script::{Line, control_homes, event_homes, line_of, pairs, platform_reads, power_override};
+use script::{control_homes, event_homes, line_of, pairs, platform_reads, power_override};
 use text::{decimal_digits, line_count, line_from, next_line};
 
 #[derive(Clone, Copy)]
@@ -59,8 +59,8 @@ fn step_reads(source: &[u8], start: usize) -> bool
     let next = next_line(source, start);
     let line = line_of(line_from(source, start));
     match line {
-        Line::Step(_) => next <= LIMIT,
-        Line::Unread => false,
+        Some(_) => next <= LIMIT,
+        None => false,
     }
 }
 
@@ -82,12 +82,12 @@ fn first_unread(source: &[u8], from: usize, first: usize) -> usize
     0
 }
 
-fn step_in(line: Line) -> Step
+fn step_in(line: Option<Step>) -> Step
     ensures { result ≡ step_in line }
 {
     match line {
-        Line::Step(s) => s,
-        Line::Unread => Step::Drop,
+        Some(s) => s,
+        None => Step::Drop,
     }
 }
 

@@ -1,7 +1,6 @@
 // A line that does not read. Each sentence is a fact that keeps such a line from reading; where none is found, it is only said that it does not.
 use crate::nearest::nearest;
 use crate::say::{byte, count, field_number, front, hex, say, shown, wide};
-use script::Line;
 use session::LIMIT;
 use text::{field, field_count, hex_value, is_hex, line_from, next_line, part, part_count, same};
 
@@ -184,11 +183,7 @@ fn odd(out: &impl Print, byte: u8) {
 
 // A step that is a word alone, also one that the forms do not have.
 fn stands_alone(word: &[u8]) -> bool {
-    let read = script::line_of(word);
-    match read {
-        Line::Step(_) => true,
-        Line::Unread => false,
-    }
+    script::line_of(word).is_some()
 }
 
 // The forms are lines, each with its fields parted by spaces.

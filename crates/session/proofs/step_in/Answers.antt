@@ -1,10 +1,10 @@
 use Rattle.session.specs.Session.{step_in}
 use Rattle.session.proofs.step_in.Goals as goal
 
-pub returns-in-Step : goal.returns-in-Step
+pub returns-in-Some : goal.returns-in-Some
 unfolding step_in
-returns-in-Step c = simp c.in-Step.is
+returns-in-Some c = simp c.in-Some.is
 
-pub returns-in-Unread : goal.returns-in-Unread
+pub returns-in-None : goal.returns-in-None
 unfolding step_in
-returns-in-Unread c = simp c.in-Unread.is
+returns-in-None c = simp c.in-None.is

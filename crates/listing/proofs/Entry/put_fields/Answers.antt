@@ -1,5 +1,5 @@
 use Rattle.listing.proofs.Laws.{fields-written}
-use Rattle.listing.proofs.put_fields.Goals as goal
+use Rattle.listing.proofs.Entry.put_fields.Goals as goal
 
 pub returns : goal.returns
 returns c =

@@ -1,5 +1,5 @@
 use Rattle.listing.proofs.Laws.{tail_written}
-use Rattle.listing.proofs.put_tail.Goals as goal
+use Rattle.listing.proofs.Entry.put_tail.Goals as goal
 
 pub returns : goal.returns
 returns c =
