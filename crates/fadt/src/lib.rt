@@ -18,7 +18,7 @@ use acpi::{
     LENGTH, PM_TMR_BLK, PM_TMR_LEN, PM1_CNT_LEN, PM1_EVT_LEN, PM1a_CNT_BLK, PM1a_EVT_BLK,
     PM1b_CNT_BLK, PM1b_EVT_BLK, PM2_CNT_BLK, PM2_CNT_LEN, SMI_CMD,
 };
-use platform::{Block, SetUpAnswer, SetUpRefusal, Settings};
+use platform::{Block, Host, SetUpAnswer, SetUpRefusal, Settings};
 use sleep::SleepTable;
 use std::num::wrapping_add_u8;
 
@@ -44,14 +44,8 @@ pub fn judge(table: &[u8], s: Settings) -> SetUpAnswer
 }
 
 // The settings that the table and the host give; what lies past the table's end reads as zero.
-pub fn settings(
-    table: &[u8],
-    event_homes: u16,
-    control_homes: u16,
-    power_override: bool,
-    pairs: [[u8; 2]; 6],
-) -> Settings
-    ensures { result ≡ settings_of table.now event_homes control_homes power_override pairs }
+pub fn settings(table: &[u8], host: Host) -> Settings
+    ensures { result ≡ settings_of table.now host.event_homes host.control_homes host.power_override host.pairs }
 {
     let smi_cmd = dword_at(table, SMI_CMD) as u64;
     let acpi_enable = byte_at(table, ACPI_ENABLE);
@@ -66,7 +60,7 @@ pub fn settings(
     let gpe1 = block(table, GPE1_BLK, GPE1_BLK_LEN);
     let gpe1_base = byte_at(table, GPE1_BASE);
     let flags = dword_at(table, FLAGS);
-    let sleep = SleepTable::new(pairs);
+    let sleep = SleepTable::new(host.pairs);
     Settings {
         smi_cmd,
         acpi_enable,
@@ -81,9 +75,9 @@ pub fn settings(
         gpe1,
         gpe1_base,
         flags,
-        event_homes,
-        control_homes,
-        power_override,
+        event_homes: host.event_homes,
+        control_homes: host.control_homes,
+        power_override: host.power_override,
         sleep,
     }
 }

@@ -14,7 +14,7 @@ ghost use Rattle.machine.specs.SetUp.{machine_for, set_up_of};
 
 pub use gpe::{GPE_BYTES, GpeArray, GpeStore};
 pub use lines::{awake, sci, smi};
-use platform::{Block, SetUpAnswer, SetUpRefusal, Settings};
+use platform::{Block, Host, SetUpAnswer, SetUpRefusal, Settings};
 pub use scalars::Scalars;
 use sleep::SleepTable;
 pub use sleeping::{NextState, StateChange, WakeSource, is_sleeping, wake_bits};
@@ -156,14 +156,8 @@ fn machine_for(answer: SetUpAnswer, settings: Settings) -> Machine
 }
 
 // Sets a machine up from a FADT (table) and what the host gives, or says which of document 01's lines 1 to 12 refuses.
-pub fn set_up(
-    table: &[u8],
-    event_homes: u16,
-    control_homes: u16,
-    power_override: bool,
-    pairs: [[u8; 2]; 6],
-) -> SetUp
-    ensures { result ≡ set_up_of table.now event_homes control_homes power_override pairs }
+pub fn set_up(table: &[u8], host: Host) -> SetUp
+    ensures { result ≡ set_up_of table.now host.event_homes host.control_homes host.power_override host.pairs }
 {
     // Line 1 first: past it every field is within the table, and is read with no test of its place.
     if fadt::table_short(table) {
@@ -171,7 +165,7 @@ pub fn set_up(
         let machine = all_zero();
         return SetUp { answer, machine };
     }
-    let s = fadt::settings(table, event_homes, control_homes, power_override, pairs);
+    let s = fadt::settings(table, host);
     let answer = fadt::judge(table, s);
     let machine = machine_for(answer, s);
     SetUp { answer, machine }

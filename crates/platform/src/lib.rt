@@ -10,4 +10,4 @@ pub use rules::{
     BLOCKS, GPE_LONGEST, SetUpAnswer, SetUpRefusal, blocks, event_count, judge, number,
     refusal_number, refusal_value, value,
 };
-pub use settings::{Settings, enable_cells, status_cells, wide_timer};
+pub use settings::{Host, Settings, enable_cells, status_cells, wide_timer};

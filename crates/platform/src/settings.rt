@@ -7,6 +7,18 @@ use acpi::TMR_VAL_EXT;
 use cells::Column;
 use sleep::SleepTable;
 
+// What the host gives beside the table.
+#[derive(Clone, Copy, Debug, PartialEq, Eq)]
+pub struct Host {
+    // a bit set: the event, or the control bit, has its home in block B
+    pub event_homes: u16,
+    pub control_homes: u16,
+    // whether the power override is fitted
+    pub power_override: bool,
+    // the SLP_TYP values of S0 to S5, PM1a_CNT's and PM1b_CNT's; an absent state's are both 255
+    pub pairs: [[u8; 2]; 6],
+}
+
 // The fields stand by their size, so that there is no padding between them.
 #[derive(Clone, Copy)]
 pub struct Settings {

@@ -3,7 +3,7 @@
 
 ghost use Rattle.files.specs.Counts.{IsPrefixLen};
 
-use platform::{SetUpAnswer, Settings};
+use platform::{Host, SetUpAnswer, Settings};
 use std::fs::{File, Files};
 
 // An absent state.
@@ -15,8 +15,13 @@ const ROOM: usize = 512;
 fn main(rt: HostRuntime) {
     let mut table = files::large_buffer();
     let length = read_table(&rt, &mut table);
-    let pairs = [NO, NO, NO, NO, NO, NO];
-    let made = machine::set_up(&table[..length], 0, 0, false, pairs);
+    let host = Host {
+        event_homes: 0,
+        control_homes: 0,
+        power_override: false,
+        pairs: [NO; 6],
+    };
+    let made = machine::set_up(&table[..length], host);
     let answer = made.answer;
     let m = made.machine;
     match answer {

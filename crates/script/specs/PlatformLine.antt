@@ -2,6 +2,7 @@
 use Rattle.std.specs.Prelude.{Bool, cond, ◌&&◌, ◌||◌, List, [], ◌∷◌, ℕ, ◌^◌, eqb, length, get_or}
 use Rattle.text.specs.Numbers.{digit_of, all_digits}
 use Rattle.text.specs.Parts.{fields_of, same_text}
+use Rattle.platform.specs.declared.settings.Host.{Host}
 use Rattle.script.specs.Fields.{field_at, hex_at, hex_below}
 use Rattle.script.specs.Words.{platform_word, absent_word, zero_word, one_word}
 
@@ -53,3 +54,6 @@ pairs_in l =
     pair_of (field_at l 8) ∷
     pair_of (field_at l 9) ∷
     []
+
+abbrev pub host_in : List ℕ → Host
+host_in l = record { event_homes = homes_at l 1; control_homes = homes_at l 2; power_override = override_in l; pairs = pairs_in l }

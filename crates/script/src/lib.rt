@@ -5,5 +5,5 @@ mod hex_fields;
 mod platform_line;
 mod step_line;
 
-pub use platform_line::{control_homes, event_homes, pairs, platform_reads, power_override};
+pub use platform_line::{host, platform_reads};
 pub use step_line::line_of;

@@ -11,9 +11,11 @@ ghost use Rattle.script.specs.PlatformLine.{
   override_in,
   pair_of,
   pairs_in,
+  host_in,
 };
 
 use crate::hex_fields::hex_below;
+use platform::Host;
 use text::{digit_of, field, field_count, field_hex, field_is, is_hex};
 
 pub fn platform_reads(line: &[u8]) -> bool
@@ -27,27 +29,43 @@ pub fn platform_reads(line: &[u8]) -> bool
         & states_read(line)
 }
 
-// What the line says; homes that do not read are 0.
-pub fn event_homes(line: &[u8]) -> u16
+// What the line says of the host.
+pub fn host(line: &[u8]) -> Host
+    ensures { result ≡ host_in line.now }
+{
+    let event_homes = event_homes(line);
+    let control_homes = control_homes(line);
+    let power_override = power_override(line);
+    let pairs = pairs(line);
+    Host {
+        event_homes,
+        control_homes,
+        power_override,
+        pairs,
+    }
+}
+
+// Homes that do not read are 0.
+fn event_homes(line: &[u8]) -> u16
     ensures { result ≡ homes_at line.now 1 }
 {
     homes_at(line, 1)
 }
 
-pub fn control_homes(line: &[u8]) -> u16
+fn control_homes(line: &[u8]) -> u16
     ensures { result ≡ homes_at line.now 2 }
 {
     homes_at(line, 2)
 }
 
-pub fn power_override(line: &[u8]) -> bool
+fn power_override(line: &[u8]) -> bool
     ensures { result ≡ override_in line.now }
 {
     field_is(line, 3, b"1")
 }
 
 // The pair of each sleep state; an absent state's is (255, 255).
-pub fn pairs(line: &[u8]) -> [[u8; 2]; 6]
+fn pairs(line: &[u8]) -> [[u8; 2]; 6]
     ensures { result ≡ pairs_in line.now }
 {
     let s0 = pair(line, 4);

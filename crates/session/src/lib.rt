@@ -14,7 +14,7 @@ use listing::{HEADER_LENGTH, entry_length, write_entry, write_header};
 use machine::{Machine, SetUp, all_zero};
 use model::{Step, Stepped};
 use platform::{SetUpAnswer, SetUpRefusal};
-use script::{control_homes, event_homes, line_of, pairs, platform_reads, power_override};
+use script::{host, line_of, platform_reads};
 use text::{decimal_digits, line_count, line_from, next_line};
 
 #[derive(Clone, Copy)]
@@ -221,14 +221,7 @@ fn platform_line_reads(source: &[u8]) -> bool
 fn set_up_by(table: &[u8], source: &[u8]) -> SetUp
     ensures { result ≡ set_up_by table.now source.now }
 {
-    let line = line_from(source, 0);
-    machine::set_up(
-        table,
-        event_homes(line),
-        control_homes(line),
-        power_override(line),
-        pairs(line),
-    )
+    machine::set_up(table, host(line_from(source, 0)))
 }
 
 // Lists the steps from a place on, on a machine, where every line from there reads.

@@ -6,6 +6,7 @@ ghost use Rattle.speed_runs.specs.Runs.{set_up_here, prepared_of, run_step, line
 
 use machine::{Machine, SetUp, sci, smi};
 use model::Step;
+use platform::Host;
 use std::num::wrapping_add_u64;
 
 // The worked session's homes and sleep type pairs.
@@ -26,7 +27,13 @@ pub struct Run {
 pub fn set_up(table: &[u8], power_override: bool) -> SetUp
     ensures { result ≡ set_up_here table.now power_override }
 {
-    machine::set_up(table, EVENT_HOMES, 0, power_override, PAIRS)
+    let host = Host {
+        event_homes: EVENT_HOMES,
+        control_homes: 0,
+        power_override,
+        pairs: PAIRS,
+    };
+    machine::set_up(table, host)
 }
 
 // SCI_EN, PWRBTN_EN, RTC_EN and BM set.

@@ -4,7 +4,7 @@
 
 ghost use Rattle.files.specs.Counts.{IsPrefixLen};
 
-use platform::{Block, Settings, is_present};
+use platform::{Block, Host, Settings, is_present};
 use std::fs::{File, Files};
 use std::num::{wrapping_add_u8, wrapping_add_u64, wrapping_sub_u8};
 
@@ -14,8 +14,13 @@ fn main(rt: HostRuntime) {
     let mut table = files::large_buffer();
     let length = read_table(&rt, &mut table);
     header(&rt, &table[..length]);
-    let pairs = [NO, NO, NO, NO, NO, NO];
-    let settings = fadt::settings(&table[..length], 0, 0, false, pairs);
+    let host = Host {
+        event_homes: 0,
+        control_homes: 0,
+        power_override: false,
+        pairs: [NO; 6],
+    };
+    let settings = fadt::settings(&table[..length], host);
     commands(&rt, settings);
     blocks(&rt, settings);
     flags(&rt, settings.flags);

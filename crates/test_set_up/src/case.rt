@@ -1,6 +1,7 @@
 // A case: its name and the number that setting up answers, in one line.
 use crate::fields::offset;
 use crate::numbers::number;
+use platform::Host;
 use test_tables::{COMMON, NO_STATE, ROOM, SESSION, SESSION_STATES, filled, pairs_of, summing_to};
 use text::{part, part_count, same};
 
@@ -164,8 +165,13 @@ pub(crate) fn answer(
     power_override: bool,
     states: [u16; 6],
 ) {
-    let pairs = pairs_of(states);
-    let made = machine::set_up(table, event_homes, control_homes, power_override, pairs);
+    let host = Host {
+        event_homes,
+        control_homes,
+        power_override,
+        pairs: pairs_of(states),
+    };
+    let made = machine::set_up(table, host);
     let answer = made.answer;
     files::say(out, name);
     files::say(out, b"\t");

@@ -1,5 +1,6 @@
 // The platforms that the cases start from.
 use machine::Machine;
+use platform::Host;
 use test_tables::{
     COMMON, FLAGS, GPE0_BLK, GPE0_BLK_LEN, GPE1_BASE, GPE1_BLK, GPE1_BLK_LEN, NO_STATE, PM_TMR_BLK,
     PM_TMR_LEN, PM1b_CNT_BLK, PM1b_EVT_BLK, PM2_CNT_BLK, PM2_CNT_LEN, ROOM, SESSION,
@@ -103,7 +104,12 @@ fn set_up(
     states: [u16; 6],
 ) -> Machine {
     let t = summing_to(0, table);
-    let pairs = pairs_of(states);
-    let made = machine::set_up(&t[..116], event_homes, control_homes, power_override, pairs);
+    let host = Host {
+        event_homes,
+        control_homes,
+        power_override,
+        pairs: pairs_of(states),
+    };
+    let made = machine::set_up(&t[..116], host);
     made.machine
 }

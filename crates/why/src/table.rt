@@ -15,18 +15,13 @@ const CONTROL_BITS: u16 = 0x0007;
 
 // The line's own words stand where the closer look finds nothing, or needs them.
 pub(crate) fn closer(out: &impl Print, refusal: SetUpRefusal, table: &[u8], line: &[u8]) {
-    let settings = fadt::settings(
-        table,
-        script::event_homes(line),
-        script::control_homes(line),
-        script::power_override(line),
-        script::pairs(line),
-    );
+    let host = script::host(line);
+    let settings = fadt::settings(table, host);
     let number = platform::refusal_number(refusal);
     if number < 6 {
         words::refusal(out, refusal);
         no_table(out, table, number);
-    } else if !in_settings(out, number, settings, script::pairs(line)) {
+    } else if !in_settings(out, number, settings, host.pairs) {
         words::refusal(out, refusal);
     }
     say(out, b"\n");
