@@ -3,7 +3,7 @@
 
 ghost use Rattle.files.specs.Counts.{IsPrefixLen};
 
-use platform::{SetUpAnswer, Settings};
+use platform::Settings;
 use std::fs::{File, Files};
 
 // An absent state.
@@ -17,11 +17,8 @@ fn main(rt: HostRuntime) {
     let length = read_table(&rt, &mut table);
     let pairs = [NO, NO, NO, NO, NO, NO];
     let made = machine::set_up(&table[..length], 0, 0, false, pairs);
-    let answer = made.answer;
-    let m = made.machine;
-    match answer {
-        SetUpAnswer::Done => print(&rt, m.settings),
-        SetUpAnswer::Refused(_) => {}
+    if made.answer.is_ok() {
+        print(&rt, made.machine.settings);
     }
 }
 
