@@ -18,27 +18,28 @@ use acpi::{
     LENGTH, PM_TMR_BLK, PM_TMR_LEN, PM1_CNT_LEN, PM1_EVT_LEN, PM1a_CNT_BLK, PM1a_EVT_BLK,
     PM1b_CNT_BLK, PM1b_EVT_BLK, PM2_CNT_BLK, PM2_CNT_LEN, SMI_CMD,
 };
-use platform::{Block, Host, SetUpAnswer, SetUpRefusal, Settings};
+use platform::{Block, Host, SetUpRefusal, Settings};
 use sleep::SleepTable;
 use std::num::wrapping_add_u8;
 
 const FACP: [u8; 4] = *b"FACP";
 
 // Lines 1 to 12 of the table: the first that refuses these bytes or these settings, wherever the settings come from.
-pub fn judge(table: &[u8], s: Settings) -> SetUpAnswer
+#[tactic(auto, unfolding(platform::specs::Answer::first_failing))]
+pub fn judge(table: &[u8], s: Settings) -> Result<(), SetUpRefusal>
     ensures { result ≡ first_failing (set_up_rules table.now s) }
 {
     if table_short(table) {
-        return SetUpAnswer::Refused(SetUpRefusal::TableShort);
+        return Err(SetUpRefusal::TableShort);
     }
     if no_signature(table) {
-        return SetUpAnswer::Refused(SetUpRefusal::NoSignature);
+        return Err(SetUpRefusal::NoSignature);
     }
     if wrong_table_length(table) {
-        return SetUpAnswer::Refused(SetUpRefusal::WrongLength);
+        return Err(SetUpRefusal::WrongLength);
     }
     if wrong_sum(table) {
-        return SetUpAnswer::Refused(SetUpRefusal::WrongSum);
+        return Err(SetUpRefusal::WrongSum);
     }
     platform::judge(s)
 }

@@ -3,11 +3,11 @@
 use mathlib.Core.Bool.{Bool, true, false, not, cond, ◌&&◌, ◌||◌, and-true, and-false, and_assoc}
 use mathlib.Core.List.{List, [], ◌∷◌}
 use mathlib.Core.Path.{◌≡◌, refl, sym, ◌∙◌}
+use Rattle.std.proofs.Common.{Err}
 use Rattle.lists.specs.Any.{any}
 use Rattle.platform.specs.Answer.{Rule, if_done, first_failing}
 use Rattle.platform.specs.Legal.{stray_length, legal_settings}
 use Rattle.platform.specs.Rules.{settings_rules}
-use Rattle.platform.specs.declared.rules.SetUpAnswer.TheVariants as answer
 use Rattle.platform.specs.declared.rules.SetUpRefusal.{SetUpRefusal}
 use Rattle.machine.specs.declared.Machine.{Machine}
 use Rattle.model.specs.Legal.{status_legal, enables_legal, gpe_legal, arb_dis_legal, state_legal, counter_legal, hold_legal, button_legal, wake_pin_legal, command_legal, armed_legal, slp_typ_b_legal, command_byte_legal, slp_typs_legal, gpe_pending_legal, listed}
@@ -32,7 +32,7 @@ legal-settings [] y = refl
 legal-settings (r ∷ rs) y = go r.refused (legal-settings rs y)
   where
     go : (t : Bool) → is_legal (if_done (first_failing rs) y settings_clause) ≡ (not (any (λ r. r.refused) rs) && is_legal y)
-        → is_legal (if_done (cond t (answer.Refused r.line) (first_failing rs)) y settings_clause) ≡ (not (t || any (λ r. r.refused) rs) && is_legal y)
+        → is_legal (if_done (cond t (Err r.line) (first_failing rs)) y settings_clause) ≡ (not (t || any (λ r. r.refused) rs) && is_legal y)
     go true h = refl
     go false h = h
 

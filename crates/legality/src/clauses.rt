@@ -11,7 +11,7 @@ ghost use Rattle.legality.specs.Legality.{one_value, after_settings, legality_of
 use crate::{Clause, Legality};
 use clock::HOLD_LIMIT;
 use machine::{GPE_BYTES, Machine, PCIEXP_WAKE, PWRBTN, awake, has_bit};
-use platform::{Block, SetUpAnswer, is_present};
+use platform::{Block, is_present};
 use registers::has_pm1b_cnt;
 
 fn status_legal(m: Machine) -> bool
@@ -238,7 +238,7 @@ pub fn judge(m: Machine) -> Legality
 {
     let s = m.settings;
     match platform::judge(s) {
-        SetUpAnswer::Refused(r) => Legality::Breaks(Clause::Settings(r)),
-        SetUpAnswer::Done => after_settings(m),
+        Err(r) => Legality::Breaks(Clause::Settings(r)),
+        Ok(()) => after_settings(m),
     }
 }

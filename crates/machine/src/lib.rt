@@ -14,7 +14,7 @@ ghost use Rattle.machine.specs.SetUp.{machine_for, set_up_of};
 
 pub use gpe::{GPE_BYTES, GpeArray, GpeStore};
 pub use lines::{awake, sci, smi};
-use platform::{Block, Host, SetUpAnswer, SetUpRefusal, Settings};
+use platform::{Block, Host, SetUpRefusal, Settings};
 pub use scalars::Scalars;
 use sleep::SleepTable;
 pub use sleeping::{NextState, StateChange, WakeSource, is_sleeping, wake_bits};
@@ -62,9 +62,10 @@ pub struct Machine {
     pub gpe1_en: [u8; GPE_BYTES],
 }
 
+// A struct and no Result, since "any refusal to make one gives it all zero": the machine is there either way.
 #[derive(Clone, Copy)]
 pub struct SetUp {
-    pub answer: SetUpAnswer,
+    pub answer: Result<(), SetUpRefusal>,
     pub machine: Machine,
 }
 
@@ -146,12 +147,12 @@ pub fn all_zero() -> Machine
 }
 
 // The machine that goes with an answer: power-on, or all zero.
-fn machine_for(answer: SetUpAnswer, settings: Settings) -> Machine
+fn machine_for(answer: Result<(), SetUpRefusal>, settings: Settings) -> Machine
     ensures { result ≡ machine_for answer settings }
 {
     match answer {
-        SetUpAnswer::Done => power_on(settings),
-        SetUpAnswer::Refused(_) => all_zero(),
+        Ok(()) => power_on(settings),
+        Err(_) => all_zero(),
     }
 }
 
@@ -161,7 +162,7 @@ pub fn set_up(table: &[u8], host: Host) -> SetUp
 {
     // Line 1 first: past it every field is within the table, and is read with no test of its place.
     if fadt::table_short(table) {
-        let answer = SetUpAnswer::Refused(SetUpRefusal::TableShort);
+        let answer = Err(SetUpRefusal::TableShort);
         let machine = all_zero();
         return SetUp { answer, machine };
     }

@@ -2,6 +2,7 @@
 -- Assumes nothing.
 use mathlib.Core.Bool.{Bool, true, false}
 use mathlib.Core.Path.{◌≡◌, refl, ◌∙◌, ap}
+use Rattle.std.proofs.Common.{Ok}
 use Rattle.lists.specs.Any.{any, any_two}
 use Rattle.bits.specs.Writes.{within}
 use Rattle.cells.specs.Cells.{flag_of, bit_at, mask_of}
@@ -10,7 +11,6 @@ use Rattle.platform.specs.Answer.{first_failing}
 use Rattle.platform.specs.Blocks.{present, holds, overlap, passes_ports}
 use Rattle.platform.specs.Fitted.{status_cells, enable_cells, wide_timer}
 use Rattle.platform.specs.Rules.{hardware_reduced, wrong_block_length, wrong_gpe_length, just_one_zero, length_refused, misaligned, place_refused, overlap_refused, gpe_refused, commands_refused, homes_without_block, homes_refused, sleep_pairs_refused}
-use Rattle.platform.specs.declared.rules.SetUpAnswer.TheVariants as answer
 use Rattle.fadt.specs.Fields.{dword, settings_of}
 use Rattle.fadt.specs.Table.{table_short, stands_at, no_signature, wrong_table_length, wrong_sum}
 use Rattle.machine.specs.PowerOn.{power_on}
@@ -78,7 +78,7 @@ unfolding hardware_reduced flag_of
 not-reduced true = refl
 not-reduced false = refl
 
-passes : (wide : Bool) → (set_up_from (fadt wide) (platform wide)).answer ≡ answer.Done
+passes : (wide : Bool) → (set_up_from (fadt wide) (platform wide)).answer ≡ Ok tt
 unfolding first_failing
 passes wide =
     rw (
@@ -99,7 +99,7 @@ passes wide =
 -- ---- set-up, whole
 
 -- "0 is success"
-pub set-up-accepts : (wide : Bool) → (set_up_on wide).answer ≡ answer.Done
+pub set-up-accepts : (wide : Bool) → (set_up_on wide).answer ≡ Ok tt
 set-up-accepts wide = rw (settings-read wide) (passes wide)
 
 -- the machine is the power-on machine of the rows' settings

@@ -1,10 +1,9 @@
 -- The platform of the marked cases: "All event bits fitted, all homes A, override fitted", both B blocks present. Its table as bytes, and
 -- the settings read from it. That set-up accepts the table and gives these settings is `proofs/Accepted.antt`.
-use Rattle.std.specs.Prelude.{Bool, true, cond, List, [], ◌∷◌, ◌≡◌, ℕ}
+use Rattle.std.specs.Prelude.{Bool, true, cond, List, [], ◌∷◌, ◌≡◌, ℕ, Ok}
 use Rattle.sleep.specs.Pairs.{sleep_table}
 use Rattle.platform.specs.Blocks.{block, no_block}
 use Rattle.platform.specs.declared.settings.Settings.{Settings}
-use Rattle.platform.specs.declared.rules.SetUpAnswer.TheVariants as answer
 use Rattle.machine.specs.declared.SetUp.{SetUp}
 use Rattle.machine.specs.SetUp.{set_up_of}
 
@@ -67,5 +66,5 @@ set_up_on wide = set_up_of (fadt wide) 0 0 true sleep_pairs
 -- set-up accepts one of the two tables, and gives these settings
 pub record SetUpGives (s : Settings) : Type 0 where
   pub wide : Bool
-  pub accepted : (set_up_on wide).answer ≡ answer.Done
+  pub accepted : (set_up_on wide).answer ≡ Ok tt
   pub settings : (set_up_on wide).machine.settings ≡ s

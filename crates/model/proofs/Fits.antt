@@ -7,11 +7,11 @@ use Prim.Native.Nat.{ℕ, ◌+◌, ◌^◌, ◌<◌}
 use native.Mathlib.Omega.{arith}
 use borrow.Author.Tests.{eq-eqb, lt-ltb}
 use lib.ListN.{length}
+use Rattle.std.proofs.Common.{Result, Ok, Err}
 use Rattle.lists.specs.Any.{any}
 use Rattle.acpi.specs.Fadt.{ACPI_ENABLE, ACPI_DISABLE, GPE1_BASE, «FLAGS»}
 use Rattle.platform.specs.Answer.{first_failing}
-use Rattle.platform.specs.declared.rules.SetUpAnswer.{SetUpAnswer}
-use Rattle.platform.specs.declared.rules.SetUpAnswer.TheVariants as answer
+use Rattle.platform.specs.declared.rules.SetUpRefusal.{SetUpRefusal}
 use Rattle.fadt.specs.Fields.{byte, dword, settings_of}
 use Rattle.fadt.specs.Table.{set_up_rules}
 use Rattle.machine.specs.SetUp.{machine_for, set_up_of}
@@ -41,6 +41,6 @@ module _ (t : List ℕ) (event_homes control_homes : ℕ) (power-override : Bool
   unfolding settings_fit not_two any
   set-up-fits = go (first_failing (set_up_rules t (settings_of t event_homes control_homes power-override pairs)))
     where
-      go : (a : SetUpAnswer) → fits_types (machine_for a (settings_of t event_homes control_homes power-override pairs)) ≡ true
-      go answer.Done = settings-fit
-      go (answer.Refused r) = refl
+      go : (a : Result (Unit {0}) SetUpRefusal) → fits_types (machine_for a (settings_of t event_homes control_homes power-override pairs)) ≡ true
+      go (Ok _) = settings-fit
+      go (Err r) = refl

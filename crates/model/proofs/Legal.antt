@@ -11,6 +11,7 @@ use borrow.Author.Tests.{eqb-false, ne_eqb, ltb-true, lt-ltb, leb-true, leb-fals
 use lib.Dec.{eqb, ltb, leb, lit<, lit≤}
 use lib.ListN.{length}
 use lib.Pow.{pow_pos}
+use Rattle.std.proofs.Common.{Ok}
 use Rattle.lists.specs.Any.{any}
 use Rattle.lists.proofs.Tests.{and_left, and_right, and-other}
 use Rattle.clock.specs.AtOnce.{off_within as overridden_in, ran_of, counter_after, hold_after}
@@ -19,7 +20,6 @@ use Rattle.platform.specs.Blocks.{present}
 use Rattle.platform.specs.Fitted.{status_cells, enable_cells, wide_timer}
 use Rattle.platform.specs.Legal.{legal_settings, Guaranteed}
 use Rattle.platform.specs.Rules.{gpe_longest, event_count}
-use Rattle.platform.specs.declared.rules.SetUpAnswer.TheVariants as answer
 use Rattle.platform.specs.declared.settings.Settings.{Settings}
 use Rattle.platform.proofs.Legal.{legal-guaranteed}
 use Rattle.fadt.specs.Fields.{byte, settings_of}
@@ -539,14 +539,14 @@ module _ (s : Settings) where
 -- the machine of an accepted set-up is the one at power-on
 module _ (t : List ℕ) (event_homes control_homes : ℕ) (power-override : Bool) (pairs : List (List ℕ)) where
   -- the general event bytes and what is stored of them, and W2's list, whatever the numbers of the table
-  pub set-up-gpe : (set_up_of t event_homes control_homes power-override pairs).answer ≡ answer.Done
+  pub set-up-gpe : (set_up_of t event_homes control_homes power-override pairs).answer ≡ Ok tt
       → Gpe (set_up_of t event_homes control_homes power-override pairs).machine
   set-up-gpe e =
       let s = settings_of t event_homes control_homes power-override pairs in
       let same = accepted-machine t s e in
       rw same (power-on-gpe s (rw same at (accepted-legal t event_homes control_homes power-override pairs e)))
 
-  pub set-up-listed : (set_up_of t event_homes control_homes power-override pairs).answer ≡ answer.Done
+  pub set-up-listed : (set_up_of t event_homes control_homes power-override pairs).answer ≡ Ok tt
       → listed (set_up_of t event_homes control_homes power-override pairs).machine ≡ true
   set-up-listed e =
       let s = settings_of t event_homes control_homes power-override pairs in
@@ -555,7 +555,7 @@ module _ (t : List ℕ) (event_homes control_homes : ℕ) (power-override : Bool
 
   -- "all that accepted setting up .. give are legal": from a table of bytes and six pairs of two, as the code's types have them
   pub set-up-legal : ((i : ℕ) → byte t i < 2 ^ 8) → length pairs ≡ 6 → any not_two pairs ≡ false
-      → (set_up_of t event_homes control_homes power-override pairs).answer ≡ answer.Done
+      → (set_up_of t event_homes control_homes power-override pairs).answer ≡ Ok tt
       → legal (set_up_of t event_homes control_homes power-override pairs).machine ≡ true
   unfolding legal
   set-up-legal bytes six two e =

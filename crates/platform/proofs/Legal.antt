@@ -9,6 +9,7 @@ use native.Mathlib.Omega.{arith}
 use borrow.Author.Tests.{ltb-true, ltb-false, leb-true, eqb-true, eqb-false, lt-ltb, le-leb, ne_eqb, not-true, not-false}
 use lib.Dec.{eqb, ltb, leb, lit<}
 use lib.ListN.{get_or}
+use Rattle.std.proofs.Common.{Ok}
 use Rattle.lists.specs.Any.{any}
 use Rattle.lists.proofs.Search.{any_none, any-two-none, any-of-none}
 use Rattle.lists.proofs.Tests.{or_left, or_right, and_left, and_right, and-other}
@@ -24,7 +25,6 @@ use Rattle.platform.specs.Legal.{stray_length, legal_tests, legal_settings, HasL
 use Rattle.platform.specs.declared.block.Block.{Block}
 use Rattle.platform.specs.declared.block.FadtBlock.{FadtBlock}
 use Rattle.platform.specs.declared.settings.Settings.{Settings}
-use Rattle.platform.specs.declared.rules.SetUpAnswer.TheVariants as answer
 use Rattle.platform.specs.declared.rules.SetUpRefusal.TheVariants as refusal
 use Rattle.platform.proofs.Answers.{done-passes}
 use Rattle.platform.proofs.FadtOrder.{name_at, each, block_at}
@@ -253,5 +253,5 @@ legal-guaranteed s e =
     guaranteed s (each 0 (lit< tt)) (each 1 (lit< tt)) (each 2 (lit< tt))
 
 -- no two blocks share a port where lines 5 to 12 accept
-pub accepted-one-block : (s : Settings) → first_failing (settings_rules s) ≡ answer.Done → OneBlock s
+pub accepted-one-block : (s : Settings) → first_failing (settings_rules s) ≡ Ok tt → OneBlock s
 accepted-one-block s e = same_block s (line s (done-passes (settings_rules s) e) 3 (lit< tt))

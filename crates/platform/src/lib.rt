@@ -7,7 +7,7 @@ mod settings;
 
 pub use block::{Block, FadtBlock, PORTS, holds_port, is_present, offset};
 pub use rules::{
-    BLOCKS, GPE_LONGEST, SetUpAnswer, SetUpRefusal, blocks, event_count, judge, number,
-    refusal_number, refusal_value, value,
+    BLOCKS, GPE_LONGEST, SetUpRefusal, blocks, event_count, judge, number, refusal_number,
+    refusal_value, value,
 };
 pub use settings::{Host, Settings, enable_cells, status_cells, wide_timer};

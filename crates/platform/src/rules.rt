@@ -34,46 +34,26 @@ pub const BLOCKS: usize = 9;
 pub const GPE_LONGEST: u32 = 16;
 
 // The lines of the table of setting up, each of which refuses.
-#[derive(Clone, Copy)]
+#[derive(Clone, Copy, Debug, PartialEq, Eq)]
 pub enum SetUpRefusal {
-    TableShort,
-    NoSignature,
-    WrongLength,
-    WrongSum,
-    HardwareReduced,
-    BlockLength,
-    BlockPlace,
-    BlocksOverlap,
-    Gpe1Numbers,
-    SameCommands,
-    WrongHomes,
-    SleepPairs,
-}
-
-// The answers of setting up: success, or the first line that refuses.
-#[derive(Clone, Copy)]
-pub enum SetUpAnswer {
-    Done,
-    Refused(SetUpRefusal),
+    TableShort = 1,
+    NoSignature = 2,
+    WrongLength = 3,
+    WrongSum = 4,
+    HardwareReduced = 5,
+    BlockLength = 6,
+    BlockPlace = 7,
+    BlocksOverlap = 8,
+    Gpe1Numbers = 9,
+    SameCommands = 10,
+    WrongHomes = 11,
+    SleepPairs = 12,
 }
 
 pub fn refusal_number(r: SetUpRefusal) -> u8
     ensures { result ≡ refusal_number r }
 {
-    match r {
-        SetUpRefusal::TableShort => 1,
-        SetUpRefusal::NoSignature => 2,
-        SetUpRefusal::WrongLength => 3,
-        SetUpRefusal::WrongSum => 4,
-        SetUpRefusal::HardwareReduced => 5,
-        SetUpRefusal::BlockLength => 6,
-        SetUpRefusal::BlockPlace => 7,
-        SetUpRefusal::BlocksOverlap => 8,
-        SetUpRefusal::Gpe1Numbers => 9,
-        SetUpRefusal::SameCommands => 10,
-        SetUpRefusal::WrongHomes => 11,
-        SetUpRefusal::SleepPairs => 12,
-    }
+    r as u8
 }
 
 pub fn refusal_value(r: SetUpRefusal) -> u32
@@ -95,53 +75,54 @@ pub fn refusal_value(r: SetUpRefusal) -> u32
     }
 }
 
-pub fn number(a: SetUpAnswer) -> u8
+pub fn number(a: Result<(), SetUpRefusal>) -> u8
     ensures { result ≡ set_up_number a }
 {
     match a {
-        SetUpAnswer::Done => 0,
-        SetUpAnswer::Refused(line) => refusal_number(line),
+        Ok(()) => 0,
+        Err(line) => refusal_number(line),
     }
 }
 
-pub fn value(a: SetUpAnswer) -> u32
+pub fn value(a: Result<(), SetUpRefusal>) -> u32
     ensures { result ≡ set_up_value a }
 {
     match a {
-        SetUpAnswer::Done => 0,
-        SetUpAnswer::Refused(line) => refusal_value(line),
+        Ok(()) => 0,
+        Err(line) => refusal_value(line),
     }
 }
 
 // Lines 5 to 12: the first that refuses these settings.
-pub fn judge(s: Settings) -> SetUpAnswer
+#[tactic(auto, unfolding(crate::specs::Answer::first_failing))]
+pub fn judge(s: Settings) -> Result<(), SetUpRefusal>
     ensures { result ≡ first_failing (settings_rules s) }
 {
     if hardware_reduced(s) {
-        return SetUpAnswer::Refused(SetUpRefusal::HardwareReduced);
+        return Err(SetUpRefusal::HardwareReduced);
     }
     if length_refused(s) {
-        return SetUpAnswer::Refused(SetUpRefusal::BlockLength);
+        return Err(SetUpRefusal::BlockLength);
     }
     if place_refused(s) {
-        return SetUpAnswer::Refused(SetUpRefusal::BlockPlace);
+        return Err(SetUpRefusal::BlockPlace);
     }
     if overlap_refused(s) {
-        return SetUpAnswer::Refused(SetUpRefusal::BlocksOverlap);
+        return Err(SetUpRefusal::BlocksOverlap);
     }
     if gpe_refused(s) {
-        return SetUpAnswer::Refused(SetUpRefusal::Gpe1Numbers);
+        return Err(SetUpRefusal::Gpe1Numbers);
     }
     if commands_refused(s) {
-        return SetUpAnswer::Refused(SetUpRefusal::SameCommands);
+        return Err(SetUpRefusal::SameCommands);
     }
     if homes_refused(s) {
-        return SetUpAnswer::Refused(SetUpRefusal::WrongHomes);
+        return Err(SetUpRefusal::WrongHomes);
     }
     if sleep_pairs_refused(s) {
-        return SetUpAnswer::Refused(SetUpRefusal::SleepPairs);
+        return Err(SetUpRefusal::SleepPairs);
     }
-    SetUpAnswer::Done
+    Ok(())
 }
 
 // The blocks in the order of their FADT address fields, SMI_CMD first.

@@ -3,7 +3,7 @@
 
 ghost use Rattle.files.specs.Counts.{IsPrefixLen};
 
-use platform::{Host, SetUpAnswer, Settings};
+use platform::{Host, Settings};
 use std::fs::{File, Files};
 
 // An absent state.
@@ -22,11 +22,8 @@ fn main(rt: HostRuntime) {
         pairs: [NO; 6],
     };
     let made = machine::set_up(&table[..length], host);
-    let answer = made.answer;
-    let m = made.machine;
-    match answer {
-        SetUpAnswer::Done => print(&rt, m.settings),
-        SetUpAnswer::Refused(_) => {}
+    if made.answer.is_ok() {
+        print(&rt, made.machine.settings);
     }
 }
 

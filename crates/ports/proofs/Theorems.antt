@@ -7,6 +7,7 @@ use Prim.Native.Nat.{ℕ, zero, suc, ◌+◌, ◌-◌, ◌≤◌, ◌<◌, zero-
 use native.Mathlib.Nat.{le_of_suc-le-suc, not-suc-le-zero}
 use native.Mathlib.Omega.{arith}
 use lib.ListN.{length, get_or}
+use Rattle.std.proofs.Common.{Ok}
 use Rattle.bits.proofs.Digits.{below-or-beyond}
 use Rattle.platform.specs.Answer.{first_failing}
 use Rattle.platform.specs.Blocks.{present, holds}
@@ -15,7 +16,6 @@ use Rattle.platform.specs.Legal.{OneBlock}
 use Rattle.platform.specs.Rules.{settings_rules}
 use Rattle.platform.specs.declared.block.FadtBlock.{FadtBlock}
 use Rattle.platform.specs.declared.block.FadtBlock.TheVariants as fadt
-use Rattle.platform.specs.declared.rules.SetUpAnswer.TheVariants as answer
 use Rattle.platform.specs.declared.settings.Settings.{Settings}
 use Rattle.platform.proofs.FadtOrder.{name_at, each, fields-rise, fields-differ}
 use Rattle.platform.proofs.Legal.{holds-from, holds_of, accepted-one-block}
@@ -156,7 +156,7 @@ found-alone s one port b offset e c h = one port c b h ((first-exactly s port b 
 
 -- ---- on an accepted platform no two share one
 
-module _ (s : Settings) (accepted : first_failing (settings_rules s) ≡ answer.Done) where
+module _ (s : Settings) (accepted : first_failing (settings_rules s) ≡ Ok tt) where
   pub accepted-alone : (port : ℕ) (b : FadtBlock) (offset : ℕ) → walk s port ≡ place.In b offset
       → (c : FadtBlock) → holds (block_of s c) port ≡ true → c ≡ b
   accepted-alone = found-alone s (accepted-one-block s accepted)

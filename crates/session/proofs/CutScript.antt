@@ -8,12 +8,12 @@ use native.Mathlib.Omega.{arith}
 use borrow.Author.Tests.{leb-true, le-leb, eqb-true}
 use lib.Dec.{eqb}
 use lib.ListN.{length, length-append}
+use Rattle.std.proofs.Common.{Result, Ok, Err}
 use Rattle.lists.proofs.Tests.{and_left, and_right}
 use Rattle.text.specs.Parts.{lf, cut, on_first, lines_of}
 use Rattle.text.proofs.Lines.{line-turn}
 use Rattle.platform.specs.Answer.{if_done}
-use Rattle.platform.specs.declared.rules.SetUpAnswer.{SetUpAnswer}
-use Rattle.platform.specs.declared.rules.SetUpAnswer.TheVariants as set-up
+use Rattle.platform.specs.declared.rules.SetUpRefusal.{SetUpRefusal}
 use Rattle.machine.specs.SetUp.{set_up_of}
 use Rattle.machine.specs.declared.Machine.{Machine}
 use Rattle.machine.specs.declared.SetUp.{SetUp}
@@ -119,7 +119,7 @@ module _ (xs rest : List ℕ) where
 module _ (table script : List ℕ) where
   -- a session ends exactly so: the platform line reads, setting up is done, and every later line reads
   abbrev Reads : Type 0
-  Reads = (platform_line_reads script ≡ true) × ((set_up_by table script).answer ≡ set-up.Done) × (unread script (after_platform_line script) 2 ≡ 0)
+  Reads = (platform_line_reads script ≡ true) × ((set_up_by table script).answer ≡ Ok tt) × (unread script (after_platform_line script) 2 ≡ 0)
 
   done-reads : (session_end table script).answer ≡ end.Done → Reads
   unfolding session_end run_end
@@ -128,12 +128,12 @@ module _ (table script : List ℕ) where
       after : Machine
       after = ended (set_up_by table script).machine (later_lines script)
 
-      go : (a : Bool) (b : SetUpAnswer) (t : Bool) → platform_line_reads script ≡ a → (set_up_by table script).answer ≡ b → eqb (unread script (after_platform_line script) 2) 0 ≡ t
+      go : (a : Bool) (b : Result (Unit {0}) SetUpRefusal) (t : Bool) → platform_line_reads script ≡ a → (set_up_by table script).answer ≡ b → eqb (unread script (after_platform_line script) 2) 0 ≡ t
           → (cond a (if_done b (cond t (record { answer = end.Done; machine = after }) (no_end (end.Line (unread script (after_platform_line script) 2)))) (λ line. no_end (end.SetUp line))) (no_end end.PlatformLine)).answer ≡ end.Done
           → Reads
-      go true set-up.Done true p q u e = (p, q, eqb-true _ _ u)
-      go true set-up.Done false p q u e = (cc, cc, cc)
-      go true (set-up.Refused r) t p q u e = (cc, cc, cc)
+      go true (Ok _) true p q u e = (p, q, eqb-true _ _ u)
+      go true (Ok _) false p q u e = (cc, cc, cc)
+      go true (Err r) t p q u e = (cc, cc, cc)
       go false b t p q u e = (cc, cc, cc)
 
   reads-done : Reads → session_end table script ≡ record { answer = end.Done; machine = ended (set_up_by table script).machine (later_lines script) }

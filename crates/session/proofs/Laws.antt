@@ -11,6 +11,7 @@ use borrow.Author.Tests.{ltb-true, ltb-false, leb-true, leb-false, le-leb, lt-le
 use lib.Dec.{eqb, ltb, leb}
 use lib.ListN.{length, drop, length-append}
 use lib.Seq.{sets, length-sets, length-take-le}
+use Rattle.std.proofs.Common.{Ok, Err}
 use Rattle.lists.proofs.Tests.{and_right}
 use Rattle.text.specs.Numbers.{digit_count}
 use Rattle.text.specs.Parts.{lf, stop_at, front, lines_of, end_of, next_line}
@@ -18,7 +19,6 @@ use Rattle.text.proofs.Fewest.{digits-suffice, digits-fewest, digit-count-some}
 use Rattle.text.proofs.Cuts.{stop-within}
 use Rattle.text.proofs.Stores.{sets_then}
 use Rattle.text.proofs.Lines.{line-turn, line-end}
-use Rattle.platform.specs.declared.rules.SetUpAnswer.TheVariants as set-up
 use Rattle.platform.specs.declared.rules.SetUpRefusal.{SetUpRefusal}
 use Rattle.platform.proofs.Answers.{if-done, if-refused}
 use Rattle.machine.specs.declared.Machine.{Machine}
@@ -243,10 +243,10 @@ module _ {A : Type 0} (table script : List ℕ) (done : Machine → A) (no_line 
     same_answer : (set_up_by table script).answer ≡ made.answer
     same_answer = ap (λ (x : SetUp). x.answer) (sym q)
 
-    judged-refused : (r : SetUpRefusal) → made.answer ≡ set-up.Refused r → refused r ≡ Judged
+    judged-refused : (r : SetUpRefusal) → made.answer ≡ Err r → refused r ≡ Judged
     judged-refused r e = rw p (sym (if-refused _ _ refused r (same_answer ∙ e)))
 
-    judged-done : made.answer ≡ set-up.Done → done made.machine ≡ Judged
+    judged-done : made.answer ≡ Ok tt → done made.machine ≡ Judged
     judged-done e = rw p (ap (λ (x : SetUp). done x.machine) q ∙ sym (if-done _ _ refused (same_answer ∙ e)))
 
 module _ (table script l : List ℕ) where
@@ -267,12 +267,12 @@ module _ (table script l : List ℕ) where
 
   module _ (made : SetUp) (p : platform_line_reads script ≡ true) (q : made ≡ set_up_by table script) where
     -- "setting up refused, with its own number"
-    pub set-up-refused : (r : SetUpRefusal) → made.answer ≡ set-up.Refused r → Ends (answer.SetUp r) l
+    pub set-up-refused : (r : SetUpRefusal) → made.answer ≡ Err r → Ends (answer.SetUp r) l
     unfolding answer_of buffer_after
     set-up-refused r e = (judged-refused table script answered answer.PlatformLine answer.SetUp made p q r e, judged-refused table script left l (λ line. l) made p q r e)
 
     -- set up: the run on its machine
-    pub set-up-done : (from : ℕ) (r : SessionAnswer) (exit : List ℕ) → made.answer ≡ set-up.Done → from ≡ after_platform_line script
+    pub set-up-done : (from : ℕ) (r : SessionAnswer) (exit : List ℕ) → made.answer ≡ Ok tt → from ≡ after_platform_line script
         → (r ≡ run_answer made.machine script from 2 (length l)) × (exit ≡ run_buffer made.machine script from 2 l)
         → Ends r exit
     unfolding answer_of buffer_after
@@ -294,11 +294,11 @@ module _ (table script : List ℕ) where
   no-end-unread p = judged-unread table script reached _ refused-by p
 
   module _ (made : SetUp) (p : platform_line_reads script ≡ true) (q : made ≡ set_up_by table script) where
-    pub no-end-refused : (r : SetUpRefusal) → made.answer ≡ set-up.Refused r → no_end (end.SetUp r) ≡ session_end table script
+    pub no-end-refused : (r : SetUpRefusal) → made.answer ≡ Err r → no_end (end.SetUp r) ≡ session_end table script
     unfolding session_end
     no-end-refused r e = judged-refused table script reached (no_end end.PlatformLine) refused-by made p q r e
 
-    pub end-done : (from : ℕ) → made.answer ≡ set-up.Done → from ≡ after_platform_line script → run_end made.machine script from 2 ≡ session_end table script
+    pub end-done : (from : ℕ) → made.answer ≡ Ok tt → from ≡ after_platform_line script → run_end made.machine script from 2 ≡ session_end table script
     unfolding session_end
     end-done from e f =
         ap (λ (o : ℕ). run_end made.machine script o 2) f ∙ judged-done table script reached (no_end end.PlatformLine) refused-by made p q e

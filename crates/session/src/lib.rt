@@ -13,7 +13,7 @@ ghost use Rattle.script.specs.StepLine.{line_of};
 use listing::{HEADER_LENGTH, entry_length, write_entry, write_header};
 use machine::{Machine, SetUp, all_zero};
 use model::{Step, Stepped};
-use platform::{SetUpAnswer, SetUpRefusal};
+use platform::SetUpRefusal;
 use script::{host, line_of, platform_reads};
 use text::{decimal_digits, line_count, line_from, next_line};
 
@@ -260,8 +260,8 @@ pub fn session(table: &[u8], source: &[u8], buf: &mut [u8]) -> SessionAnswer
         let made = set_up_by(table, source);
         let answer = made.answer;
         return match answer {
-            SetUpAnswer::Done => run(buf, made.machine, source, next_line(source, 0), 2),
-            SetUpAnswer::Refused(line) => SessionAnswer::SetUp(line),
+            Ok(()) => run(buf, made.machine, source, next_line(source, 0), 2),
+            Err(line) => SessionAnswer::SetUp(line),
         };
     }
     SessionAnswer::PlatformLine
@@ -275,8 +275,8 @@ pub fn end(table: &[u8], source: &[u8]) -> Ended
         let made = set_up_by(table, source);
         let answer = made.answer;
         return match answer {
-            SetUpAnswer::Done => run_end(made.machine, source, next_line(source, 0), 2),
-            SetUpAnswer::Refused(line) => no_end(EndAnswer::SetUp(line)),
+            Ok(()) => run_end(made.machine, source, next_line(source, 0), 2),
+            Err(line) => no_end(EndAnswer::SetUp(line)),
         };
     }
     no_end(EndAnswer::PlatformLine)

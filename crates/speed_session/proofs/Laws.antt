@@ -1,8 +1,7 @@
 -- Laws for the loop over sessions: one turn, and the end; and a session keeps the buffer's length. Assumes nothing.
-use Rattle.std.proofs.Common.{◌≡◌, ℕ, zero, suc, Bool, true, false, cond, eqb, List, length, refl}
+use Rattle.std.proofs.Common.{◌≡◌, ℕ, zero, suc, Bool, true, false, cond, eqb, List, length, refl, Result, Ok, Err}
 use Rattle.platform.specs.Answer.{if_done}
-use Rattle.platform.specs.declared.rules.SetUpAnswer.{SetUpAnswer}
-use Rattle.platform.specs.declared.rules.SetUpAnswer.TheVariants as set-up
+use Rattle.platform.specs.declared.rules.SetUpRefusal.{SetUpRefusal}
 use Rattle.listing.specs.Entry.{put_at}
 use Rattle.session.specs.Session.{listing_of, text_for, step_lines, unread, run_buffer, after_platform_line, platform_line_reads, set_up_by, buffer_after}
 use Rattle.session.proofs.Laws.{put-length}
@@ -34,8 +33,8 @@ module _ (table script : List ℕ) where
       text : List ℕ
       text = listing_of (set_up_by table script).machine (step_lines script (after_platform_line script))
 
-      go : (a : Bool) (b : SetUpAnswer) (c : Bool) → length (cond a (if_done b (cond c (put_at buffer 0 text) buffer) (λ line. buffer)) buffer) ≡ length buffer
-      go true set-up.Done true = put-length buffer 0 text
-      go true set-up.Done false = refl
-      go true (set-up.Refused r) c = refl
+      go : (a : Bool) (b : Result (Unit {0}) SetUpRefusal) (c : Bool) → length (cond a (if_done b (cond c (put_at buffer 0 text) buffer) (λ line. buffer)) buffer) ≡ length buffer
+      go true (Ok _) true = put-length buffer 0 text
+      go true (Ok _) false = refl
+      go true (Err r) c = refl
       go false b c = refl

@@ -8,6 +8,7 @@ use mathlib.Core.List.{List, [], ◌∷◌}
 use mathlib.Core.Path.{◌≡◌}
 use Prim.Native.Nat.{ℕ, ◌^◌, ◌<◌}
 use lib.ListN.{length}
+use Rattle.std.proofs.Common.{Ok}
 use Rattle.lists.specs.Any.{any}
 use Rattle.lists.proofs.Tests.{and_left}
 use Rattle.bits.proofs.Writes.{masked-lt, within-masked}
@@ -18,7 +19,6 @@ use Rattle.runs.specs.Items.{Throughout, after as after_all}
 use Rattle.runs.proofs.Runs.{kept-after}
 use Rattle.platform.specs.Blocks.{present}
 use Rattle.platform.specs.Fitted.{status_cells}
-use Rattle.platform.specs.declared.rules.SetUpAnswer.TheVariants as set-up
 use Rattle.platform.proofs.Legal.{legal-guaranteed}
 use Rattle.fadt.specs.Fields.{byte}
 use Rattle.registers.specs.Registers.{gpe_half, gpe_sts}
@@ -50,7 +50,7 @@ all-legal m (x ∷ steps) e = (e, all-legal (after m x) steps (legal-kept m x e)
 -- "all that accepted setting up .. and any steps then give are legal": from a table of bytes and six pairs of two
 pub set-up-legal-after : (t : List ℕ) (event_homes control_homes : ℕ) (power-override : Bool) (pairs : List (List ℕ))
     → ((i : ℕ) → byte t i < 2 ^ 8) → length pairs ≡ 6 → any not_two pairs ≡ false
-    → (set_up_of t event_homes control_homes power-override pairs).answer ≡ set-up.Done
+    → (set_up_of t event_homes control_homes power-override pairs).answer ≡ Ok tt
     → (steps : List Step)
     → legal (after_all after (set_up_of t event_homes control_homes power-override pairs).machine steps) ≡ true
 set-up-legal-after t event_homes control_homes power-override pairs bytes six two e steps =

@@ -4,6 +4,7 @@ use mathlib.Core.Bool.{false}
 use mathlib.Core.List.{List, [], ◌∷◌}
 use mathlib.Core.Path.{◌≡◌, refl, ◌∙◌, ap, subst}
 use Prim.Native.Nat.{ℕ}
+use Rattle.std.proofs.Common.{Ok}
 use Rattle.lists.specs.Any.{any, any_two}
 use Rattle.bits.specs.Digit.{digit}
 use Rattle.bits.specs.Writes.{within}
@@ -15,7 +16,6 @@ use Rattle.platform.specs.Answer.{first_failing}
 use Rattle.platform.specs.Blocks.{block, present, holds, overlap, passes_ports}
 use Rattle.platform.specs.Rules.{hardware_reduced, wrong_block_length, wrong_gpe_length, just_one_zero, length_refused, misaligned, place_refused, overlap_refused, gpe_refused, commands_refused, homes_without_block, homes_refused, sleep_pairs_refused}
 use Rattle.platform.specs.declared.settings.Settings.{Settings}
-use Rattle.platform.specs.declared.rules.SetUpAnswer.TheVariants as set-up
 use Rattle.fadt.specs.Fields.{dword, settings_of}
 use Rattle.fadt.specs.Table.{table_short, stands_at, no_signature, wrong_table_length, wrong_sum}
 use Rattle.machine.specs.PowerOn.{power_on}
@@ -135,12 +135,12 @@ module _ (homes : ℕ) where
   pairs-right = refl
 
   -- line 11 is left
-  accepts : homes_refused (platform homes) ≡ false → (set_up_from table (platform homes)).answer ≡ set-up.Done
+  accepts : homes_refused (platform homes) ≡ false → (set_up_from table (platform homes)).answer ≡ Ok tt
   unfolding first_failing
   accepts e =
       rw (table-long, table-signed, table-length, table-sum, not-reduced, lengths-right, places-right, none-overlap, gpe-right, commands-right, e, pairs-right)
 
-  pub accepted : homes_refused (platform homes) ≡ false → (set_up_of table homes 0 false pairs).answer ≡ set-up.Done
+  pub accepted : homes_refused (platform homes) ≡ false → (set_up_of table homes 0 false pairs).answer ≡ Ok tt
   accepted e = ap (λ s. (set_up_from table s).answer) (settings-read homes) ∙ accepts e
 
   pub gives : homes_refused (platform homes) ≡ false → (set_up_of table homes 0 false pairs).machine ≡ machine homes

@@ -1,7 +1,6 @@
 -- Where the claims start: at a machine as setting up gives it, at any legal one, or after any steps from there; of a set-up and a step.
-use Rattle.std.specs.Prelude.{Bool, true, List, ◌≡◌, ℕ}
+use Rattle.std.specs.Prelude.{Bool, true, List, ◌≡◌, ℕ, Ok}
 use Rattle.runs.specs.Items.{after}
-use Rattle.platform.specs.declared.rules.SetUpAnswer.TheVariants as set-up
 use Rattle.machine.specs.declared.Machine.{Machine}
 use Rattle.machine.specs.declared.SetUp.{SetUp}
 use Rattle.model.specs.Legal.{legal}
@@ -28,7 +27,7 @@ InS0 m = m.state ≡ 0
 abbrev pub FromSetUp : SettingUp → (Machine → Type 0) → Type 0
 FromSetUp setting P =
     (t : List ℕ) (event_homes control_homes : ℕ) (power-override : Bool) (pairs : List (List ℕ))
-    → (setting t event_homes control_homes power-override pairs).answer ≡ set-up.Done
+    → (setting t event_homes control_homes power-override pairs).answer ≡ Ok tt
     → P (setting t event_homes control_homes power-override pairs).machine
 
 -- "after any steps from setting up": P of every machine that such steps lead to
