@@ -16,8 +16,7 @@ use Rattle.text.proofs.Stores.{two-writes}
 use Rattle.listing.specs.Entry.{decimal, flag, state_digit, state_text, tail, fields, entry, entry_length, put_at}
 use Rattle.machine.specs.declared.Machine.{Machine}
 use Rattle.machine.specs.Lines.{sci_of, smi_of}
-use Rattle.model.specs.Answer.{step_number, step_value}
-use Rattle.model.specs.declared.Answer.{Answer}
+use Rattle.model.specs.Answer.{Answer, step_number, step_value}
 
 -- digits, and a text after them
 pub after-digits : (b width n : ℕ) (l : List ℕ) (at : ℕ) (ys first second : List ℕ) → first ≡ sets l at (digits b width n)
