@@ -12,7 +12,7 @@ ghost use Rattle.model.specs.Effect.{control_write};
 use acpi::{BM_RLD, GBL_RLS, SLP_EN, SLP_TYPx};
 use bits::{pick_bool, pick8};
 use machine::{NextState, Scalars, StateChange};
-use model::{Answer, Effect};
+use model::{Effect, StepRefusal};
 use platform::Settings;
 use registers::{control_in, covers_high, covers_low, has_pm1b_cnt, placed, written_bit};
 
@@ -107,7 +107,7 @@ pub fn write(s: Settings, x: Scalars, b: bool, width: u32, offset: u64, written:
     if completes(s, x, b, width, offset, written) {
         let state = named_state(s, next.slp_typ_a, next.slp_typ_b);
         if state == 0 {
-            return model::unmoved(x, Answer::NoSleepState);
+            return model::unmoved(x, Err(StepRefusal::NoSleepState));
         }
         model::done(0, next, NextState::Changed(StateChange::Complete(state)))
     } else {

@@ -16,7 +16,7 @@ use machine::{
     NextState, PCIEXP_WAKE, PWRBTN, Scalars, StateChange, WakeSource, awake, has_bit, is_sleeping,
     wake_bits,
 };
-use model::{Answer, Effect};
+use model::{Effect, StepRefusal};
 use platform::Settings;
 
 pub(crate) fn fits(s: Settings, bit: u16) -> bool
@@ -78,12 +78,12 @@ pub(crate) fn press(s: Settings, x: Scalars) -> Effect
 {
     if fits(s, PWRBTN) {
         if x.button {
-            model::unmoved(x, Answer::AlreadySo)
+            model::unmoved(x, Err(StepRefusal::AlreadySo))
         } else {
             model::done(0, button_down(x), press_wakes(x.state))
         }
     } else {
-        model::unmoved(x, Answer::NotFitted)
+        model::unmoved(x, Err(StepRefusal::NotFitted))
     }
 }
 
@@ -104,10 +104,10 @@ pub(crate) fn release(s: Settings, x: Scalars) -> Effect
         if x.button {
             model::done(0, button_up(x), NextState::Same)
         } else {
-            model::unmoved(x, Answer::AlreadySo)
+            model::unmoved(x, Err(StepRefusal::AlreadySo))
         }
     } else {
-        model::unmoved(x, Answer::NotFitted)
+        model::unmoved(x, Err(StepRefusal::NotFitted))
     }
 }
 
@@ -124,7 +124,7 @@ fn raise_signal(s: Settings, x: Scalars, i: u8, bit: u16) -> Effect
     ensures { result ≡ signal_effect (bare s x) (pm1 i) }
 {
     if is_s5(x.state) {
-        model::unmoved(x, Answer::Done(0))
+        model::unmoved(x, Ok(0))
     } else {
         model::done(
             0,
@@ -142,7 +142,7 @@ pub(crate) fn signal(s: Settings, x: Scalars, i: u8, bit: u16) -> Effect
     if fits(s, bit) {
         raise_signal(s, x, i, bit)
     } else {
-        model::unmoved(x, Answer::NotFitted)
+        model::unmoved(x, Err(StepRefusal::NotFitted))
     }
 }
 
@@ -179,13 +179,13 @@ pub(crate) fn pin(s: Settings, x: Scalars, active: bool) -> Effect
 {
     if fits(s, PCIEXP_WAKE) {
         if x.wake_pin == active {
-            model::unmoved(x, Answer::AlreadySo)
+            model::unmoved(x, Err(StepRefusal::AlreadySo))
         } else {
             let wakes = pin_wakes(active, x.state, x.pm1_en);
             model::done(0, pinned(x, active, wakes), pin_next(wakes))
         }
     } else {
-        model::unmoved(x, Answer::NotFitted)
+        model::unmoved(x, Err(StepRefusal::NotFitted))
     }
 }
 
@@ -197,6 +197,6 @@ pub(crate) fn notice(x: Scalars, i: u8, bit: u16) -> Effect
     if awake(x.state) {
         model::done(0, raise(x, bit), NextState::Same)
     } else {
-        model::unmoved(x, Answer::Asleep)
+        model::unmoved(x, Err(StepRefusal::Asleep))
     }
 }

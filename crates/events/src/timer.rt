@@ -11,7 +11,7 @@ use crate::buttons::fits;
 use bits::pick16;
 use clock::Clock;
 use machine::{NextState, Scalars, StateChange, TMR, awake};
-use model::{Answer, Effect};
+use model::Effect;
 use platform::Settings;
 
 fn tmr_raised(s: Settings, turns: u32) -> u16
@@ -51,6 +51,6 @@ pub(crate) fn ticks(s: Settings, x: Scalars, n: u32) -> Effect
         let t = clock::ticks(wide, x.button, s.power_override, x.counter, x.hold, n);
         model::done(t.turns, timed(s, x, t), overridden_if(t.off))
     } else {
-        model::unmoved(x, Answer::Done(0))
+        model::unmoved(x, Ok(0))
     }
 }
