@@ -1,6 +1,6 @@
 -- What the tests on the way to a cell say of the offset and of what is written. Assumes nothing.
 use mathlib.Core.Bool.{Bool, true, false, cond, ◌&&◌, and-false, or-false, false≢true}
-use Rattle.std.specs.Prelude.{None}
+use Rattle.std.specs.Prelude.{Option, None}
 use mathlib.Core.Path.{◌≡◌, refl, sym, ◌∙◌, ap}
 use Prim.Native.Nat.{ℕ, ◌+◌, ◌-◌, ◌/◌, ◌%◌, ◌^◌, ◌≤◌, ◌<◌}
 use native.Mathlib.Nat.{zero-div}
@@ -133,7 +133,7 @@ module _ (m : Machine) (width offset written : ℕ) (x : Effect) where
 -- ---- the lines before the register's
 
 -- what an access reaches, by the place that the walk gives
-pub reaches : (s : Settings) (port : ℕ) (p : Place) (r : Register) (offset : ℕ) → p ≡ walk s port → r ≡ register_in p → offset ≡ offset_in p
+pub reaches : (s : Settings) (port : ℕ) (p : Option Place) (r : Register) (offset : ℕ) → p ≡ walk s port → r ≡ register_in p → offset ≡ offset_in p
     → (r ≡ register_at s port) × (offset ≡ offset_at s port)
 unfolding register_at offset_at
 reaches s port p r offset w e f = (e ∙ ap register_in w, f ∙ ap offset_in w)
