@@ -23,21 +23,15 @@ fn block_register(b: FadtBlock) -> Register
 }
 
 // The register of the block; nowhere there is none.
-pub fn register_in(place: Place) -> Register
+pub fn register_in(place: Option<Place>) -> Register
     ensures { result ≡ register_in place }
 {
-    match place {
-        Place::In(b, _) => block_register(b),
-        Place::Nowhere => Register::Nowhere,
-    }
+    place.map_or(Register::Nowhere, |p| block_register(p.block))
 }
 
 // The offset in the block; nowhere it is zero.
-pub fn offset_in(place: Place) -> u64
+pub fn offset_in(place: Option<Place>) -> u64
     ensures { result ≡ offset_in place }
 {
-    match place {
-        Place::In(_, offset) => offset,
-        Place::Nowhere => 0,
-    }
+    place.map_or(0, |p| p.offset)
 }

@@ -1,5 +1,6 @@
 -- What the tests on the way to a cell say of the offset and of what is written. Assumes nothing.
 use mathlib.Core.Bool.{Bool, true, false, cond, ◌&&◌, and-false, or-false, false≢true}
+use Rattle.std.specs.Prelude.{Option, None}
 use mathlib.Core.Path.{◌≡◌, refl, sym, ◌∙◌, ap}
 use Prim.Native.Nat.{ℕ, ◌+◌, ◌-◌, ◌/◌, ◌%◌, ◌^◌, ◌≤◌, ◌<◌}
 use native.Mathlib.Nat.{zero-div}
@@ -12,7 +13,6 @@ use Rattle.platform.specs.declared.settings.Settings.{Settings}
 use Rattle.bits.specs.Writes.{byte_at}
 use Rattle.registers.specs.Registers.{lane_at, one_byte, shown, in_status, in_enable, status_after, enable_after, covers_low, covers_high, gpe_half, gpe_sts_byte, in_gpe_status}
 use Rattle.machine.specs.declared.Machine.{Machine}
-use Rattle.machine.specs.declared.sleeping.NextState.TheVariants as next
 use Rattle.machine.specs.Fields.{with_command, with_arb_dis}
 use Rattle.machine.specs.Lines.{awake}
 use Rattle.machine.specs.Scalars.{bare, scalars_of}
@@ -88,12 +88,12 @@ module _ (m : Machine) (width offset written : ℕ) (x : Effect) where
   smi-refuses w q a =
       q ∙ rw a (ap (λ t. unless_refused m (cond t (Err refusal.CommandWaits) (Ok 0)) (write_effect m register.SmiCmd width offset written)) (sym w))
 
-  pub smi-takes : m.command_waits ≡ false → x ≡ done 0 (scalars_of (with_command m true (written % 2 ^ 8))) next.Same
+  pub smi-takes : m.command_waits ≡ false → x ≡ done 0 (scalars_of (with_command m true (written % 2 ^ 8))) None
       → allowed register.SmiCmd width offset ≡ true → Ends register.SmiCmd
   unfolding register_write first_applying leads_nowhere is_timer command_lost names_none write_effect
   smi-takes w q a = rw (a, w) q
 
-  pub pm2-takes : x ≡ done 0 (scalars_of (with_arb_dis m (eqb (written / 2 ^ ARB_DIS % 2) 1))) next.Same → allowed register.Pm2Cnt width offset ≡ true
+  pub pm2-takes : x ≡ done 0 (scalars_of (with_arb_dis m (eqb (written / 2 ^ ARB_DIS % 2) 1))) None → allowed register.Pm2Cnt width offset ≡ true
       → Ends register.Pm2Cnt
   unfolding register_write first_applying leads_nowhere is_timer command_lost names_none write_effect
   pm2-takes q a = rw a q
@@ -107,7 +107,7 @@ module _ (m : Machine) (width offset written : ℕ) (x : Effect) where
   nowhere-refuses q a = q
 
   module _ (b : Bool) where
-    pub event-takes : x ≡ done 0 (event_write m b width offset written) next.Same → allowed (register.Pm1Evt b) width offset ≡ true → Ends (register.Pm1Evt b)
+    pub event-takes : x ≡ done 0 (event_write m b width offset written) None → allowed (register.Pm1Evt b) width offset ≡ true → Ends (register.Pm1Evt b)
     unfolding register_write first_applying leads_nowhere is_timer command_lost names_none write_effect
     event-takes q a = rw a q
 
@@ -134,7 +134,7 @@ module _ (m : Machine) (width offset written : ℕ) (x : Effect) where
 -- ---- the lines before the register's
 
 -- what an access reaches, by the place that the walk gives
-pub reaches : (s : Settings) (port : ℕ) (p : Place) (r : Register) (offset : ℕ) → p ≡ walk s port → r ≡ register_in p → offset ≡ offset_in p
+pub reaches : (s : Settings) (port : ℕ) (p : Option Place) (r : Register) (offset : ℕ) → p ≡ walk s port → r ≡ register_in p → offset ≡ offset_in p
     → (r ≡ register_at s port) × (offset ≡ offset_at s port)
 unfolding register_at offset_at
 reaches s port p r offset w e f = (e ∙ ap register_in w, f ∙ ap offset_in w)
@@ -211,7 +211,7 @@ module _ (m : Machine) (r : Register) (b : Bool) (width offset : ℕ) where
         let past : 2 ≤ offset = omega arith in
         rw (le-ltb offset 2 past, le-ltb offset 4 h, and-false) refl
 
-    control-write-past : 2 ≤ offset → done 0 (scalars_of m) next.Same ≡ control_write m b width offset written
+    control-write-past : 2 ≤ offset → done 0 (scalars_of m) None ≡ control_write m b width offset written
     unfolding control_write completing completes sets_slp_en typ_after armed_after bm_rld_after gbl_rls_after covers_low covers_high
     control-write-past h =
         let low : eqb offset 0 ≡ false = ne_eqb offset 0 (λ e. omega arith) in

@@ -11,7 +11,7 @@ ghost use Rattle.model.specs.Effect.{sts_array, en_array, sts_byte, en_byte, gpe
 
 use acpi::ARB_DIS;
 use bits::{pick32, pick64};
-use machine::{GpeArray, GpeStore, Machine, NextState, Scalars};
+use machine::{GpeArray, GpeStore, Machine, Scalars};
 use model::{Effect, Register, StepRefusal};
 use platform::Settings;
 use registers::{read_high, read_low};
@@ -163,7 +163,7 @@ fn stores(scalars: Scalars, store: GpeStore) -> Effect
         answer: Ok(0),
         scalars,
         store,
-        next: NextState::Same,
+        next: None,
     }
 }
 
@@ -212,12 +212,12 @@ pub(crate) fn write_cells(m: Machine, r: Register, width: u32, offset: u64, writ
             if m.command_waits {
                 return model::unmoved(m.scalars(), Err(StepRefusal::CommandWaits));
             }
-            model::done(0, latch(m.scalars(), written % 256), NextState::Same)
+            model::done(0, latch(m.scalars(), written % 256), None)
         }
         Register::Pm1Evt(b) => model::done(
             0,
             event_written(s, m.scalars(), b, width, offset, written),
-            NextState::Same,
+            None,
         ),
         Register::Pm1Cnt(b) => {
             let bytes = match offset {
@@ -236,7 +236,7 @@ pub(crate) fn write_cells(m: Machine, r: Register, width: u32, offset: u64, writ
         Register::Pm2Cnt => model::done(
             0,
             with_arb_dis(m.scalars(), written / ARB_DIS_SET % 2 == 1),
-            NextState::Same,
+            None,
         ),
         Register::PmTmr => model::unmoved(m.scalars(), Err(StepRefusal::TimerWritten)),
         Register::Gpe(b) => {

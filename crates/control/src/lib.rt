@@ -11,7 +11,7 @@ ghost use Rattle.model.specs.Effect.{control_write};
 
 use acpi::{BM_RLD, GBL_RLS, SLP_EN, SLP_TYPx};
 use bits::{pick_bool, pick8};
-use machine::{NextState, Scalars, StateChange};
+use machine::{Scalars, StateChange};
 use model::{Effect, StepRefusal};
 use platform::Settings;
 use registers::{control_in, covers_high, covers_low, has_pm1b_cnt, placed, written_bit};
@@ -109,8 +109,8 @@ pub fn write(s: Settings, x: Scalars, b: bool, width: u32, offset: u64, written:
         if state == 0 {
             return model::unmoved(x, Err(StepRefusal::NoSleepState));
         }
-        model::done(0, next, NextState::Changed(StateChange::Complete(state)))
+        model::done(0, next, Some(StateChange::Complete(state)))
     } else {
-        model::done(0, next, NextState::Same)
+        model::done(0, next, None)
     }
 }

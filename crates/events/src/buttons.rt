@@ -13,8 +13,7 @@ ghost use Rattle.model.specs.declared.Event.TheVariants as event;
 use acpi::{PCIEXP_WAKE_STS, PWRBTN_STS};
 use bits::pick16;
 use machine::{
-    NextState, PCIEXP_WAKE, PWRBTN, Scalars, StateChange, WakeSource, awake, has_bit, is_sleeping,
-    wake_bits,
+    PCIEXP_WAKE, PWRBTN, Scalars, StateChange, WakeSource, awake, has_bit, is_sleeping, wake_bits,
 };
 use model::{Effect, StepRefusal};
 use platform::Settings;
@@ -41,22 +40,19 @@ pub(crate) fn is_s5(state: u8) -> bool
 }
 
 // An event in S1 to S4 that wakes, or does not.
-pub(crate) fn wakes_if(state: u8, source: WakeSource, test: bool) -> NextState
+#[tactic(auto, unfolding(model::specs::Effect::wakes_if))]
+pub(crate) fn wakes_if(state: u8, source: WakeSource, test: bool) -> Option<StateChange>
     ensures { result ≡ wakes_if state source test }
 {
-    if is_sleeping(state) & test {
-        NextState::Changed(StateChange::Wake(source))
-    } else {
-        NextState::Same
-    }
+    (is_sleeping(state) & test).then_some(StateChange::Wake(source))
 }
 
 // A press wakes: from S5 to a machine started anew, from S1 to S4 with its registers kept.
-fn press_wakes(state: u8) -> NextState
+fn press_wakes(state: u8) -> Option<StateChange>
     ensures { result ≡ press_wakes state }
 {
     if is_s5(state) {
-        NextState::Changed(StateChange::Restart)
+        Some(StateChange::Restart)
     } else {
         wakes_if(state, WakeSource::Pm1(PWRBTN_STS), true)
     }
@@ -102,7 +98,7 @@ pub(crate) fn release(s: Settings, x: Scalars) -> Effect
 {
     if fits(s, PWRBTN) {
         if x.button {
-            model::done(0, button_up(x), NextState::Same)
+            model::done(0, button_up(x), None)
         } else {
             model::unmoved(x, Err(StepRefusal::AlreadySo))
         }
@@ -163,14 +159,11 @@ fn pinned(x: Scalars, active: bool, wakes: bool) -> Scalars
     next
 }
 
-fn pin_next(wakes: bool) -> NextState
+#[tactic(auto, unfolding(model::specs::Effect::pin_next))]
+fn pin_next(wakes: bool) -> Option<StateChange>
     ensures { result ≡ pin_next wakes }
 {
-    if wakes {
-        NextState::Changed(StateChange::Wake(WakeSource::Pm1(PCIEXP_WAKE_STS)))
-    } else {
-        NextState::Same
-    }
+    wakes.then_some(StateChange::Wake(WakeSource::Pm1(PCIEXP_WAKE_STS)))
 }
 
 // 28 and 30; else the pin takes the level, and may wake.
@@ -195,7 +188,7 @@ pub(crate) fn notice(x: Scalars, i: u8, bit: u16) -> Effect
     ensures { result ≡ event_effect (bare no_settings x) (pm1 i) kind.notice }
 {
     if awake(x.state) {
-        model::done(0, raise(x, bit), NextState::Same)
+        model::done(0, raise(x, bit), None)
     } else {
         model::unmoved(x, Err(StepRefusal::Asleep))
     }

@@ -10,7 +10,7 @@ ghost use Rattle.model.specs.declared.Event.TheVariants as event;
 use crate::buttons::fits;
 use bits::pick16;
 use clock::Clock;
-use machine::{NextState, Scalars, StateChange, TMR, awake};
+use machine::{Scalars, StateChange, TMR, awake};
 use model::Effect;
 use platform::Settings;
 
@@ -32,14 +32,10 @@ fn timed(s: Settings, x: Scalars, t: Clock) -> Scalars
     next
 }
 
-fn overridden_if(off: bool) -> NextState
+fn overridden_if(off: bool) -> Option<StateChange>
     ensures { result ≡ overridden_if off }
 {
-    if off {
-        NextState::Changed(StateChange::Override)
-    } else {
-        NextState::Same
-    }
+    off.then_some(StateChange::Override)
 }
 
 // n ticks at once, in S0 only: how often the counter's top bit turned, and the machine after them.

@@ -8,7 +8,7 @@ ghost use Rattle.model.specs.Effect.{effect_of};
 ghost use Rattle.model.specs.Firmware.{is_acpi_enable, is_acpi_disable, sci_en_after, enables_after, take_of, drop_of};
 ghost use Rattle.model.specs.declared.Step.TheVariants as step;
 
-use machine::{NextState, Scalars, awake};
+use machine::{Scalars, awake};
 use model::{Effect, StepRefusal};
 use platform::Settings;
 
@@ -75,7 +75,7 @@ pub fn take(s: Settings, x: Scalars) -> Effect
 {
     if awake(x.state) {
         if x.command_waits {
-            model::done(x.command, take_command(s, x), NextState::Same)
+            model::done(x.command, take_command(s, x), None)
         } else {
             model::unmoved(x, Err(StepRefusal::NoCommand))
         }
@@ -97,7 +97,7 @@ pub fn drop(x: Scalars) -> Effect
     ensures { result ≡ effect_of (bare no_settings x) step.Drop }
 {
     if awake(x.state) {
-        model::done(0, drop_flag(x), NextState::Same)
+        model::done(0, drop_flag(x), None)
     } else {
         model::unmoved(x, Err(StepRefusal::Asleep))
     }

@@ -1,5 +1,5 @@
 -- Sleep and wake.
-use Rattle.std.specs.Prelude.{Bool, false, not, cond, ◌&&◌, ◌||◌, ℕ, ◌+◌, eqb, leb}
+use Rattle.std.specs.Prelude.{Bool, false, Option, Some, None, not, cond, ◌&&◌, ◌||◌, ℕ, ◌+◌, eqb, leb}
 use Rattle.std.specs.Int.Bits.{bit_and, bit_or}
 use Rattle.acpi.specs.Fadt.{RTC_S4}
 use Rattle.cells.specs.Cells.{flag_of}
@@ -10,8 +10,6 @@ use Rattle.machine.specs.declared.sleeping.WakeSource.{WakeSource}
 use Rattle.machine.specs.declared.sleeping.WakeSource.TheVariants as source
 use Rattle.machine.specs.declared.sleeping.StateChange.{StateChange}
 use Rattle.machine.specs.declared.sleeping.StateChange.TheVariants as change
-use Rattle.machine.specs.declared.sleeping.NextState.{NextState}
-use Rattle.machine.specs.declared.sleeping.NextState.TheVariants as next
 use Rattle.platform.specs.declared.settings.Settings.{Settings}
 use Rattle.machine.specs.Status.{pwrbtn_bit, slpbtn_bit, rtc_bit, wak_bit, has_bit}
 use Rattle.machine.specs.Fields.{with_event, with_gpe, with_control, with_command, with_arb_dis, with_sci_en, enter}
@@ -74,6 +72,6 @@ state_changed (change.Complete state) m = completed m state
 state_changed change.Override m = overridden m
 state_changed change.Restart m = restart_pressed m
 
-unfoldable pub in_next_state : NextState → Machine → Machine
-in_next_state next.Same m = m
-in_next_state (next.Changed c) m = state_changed c m
+unfoldable pub in_next_state : Option StateChange → Machine → Machine
+in_next_state None m = m
+in_next_state (Some c) m = state_changed c m

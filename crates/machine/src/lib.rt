@@ -17,7 +17,7 @@ pub use lines::{awake, sci, smi};
 use platform::{Block, Host, SetUpRefusal, Settings};
 pub use scalars::Scalars;
 use sleep::SleepTable;
-pub use sleeping::{NextState, StateChange, WakeSource, is_sleeping, wake_bits};
+pub use sleeping::{StateChange, WakeSource, is_sleeping, wake_bits};
 pub use status::{BM, GBL, PCIEXP_WAKE, PWRBTN, RTC, SLPBTN, TMR, WAK, has_bit, has_bit8};
 
 // No padding stands between the fields: with it the compiler would copy them as bytes.

@@ -5,7 +5,7 @@ ghost use Rattle.machine.specs.Scalars.{scalars_of, with_scalars};
 
 use crate::Machine;
 use crate::gpe::GpeStore;
-use crate::sleeping::NextState;
+use crate::sleeping::StateChange;
 
 // A step is worked out on these and stored once, so that no way through it copies settings or bytes. The fields are those of Machine.
 #[derive(Clone, Copy)]
@@ -105,7 +105,7 @@ impl Machine {
     }
 
     // The one place where a step changes the machine: its scalars, the general event byte that it stores, and the sleep state.
-    pub fn apply(self, x: Scalars, store: GpeStore, next: NextState) -> Machine
+    pub fn apply(self, x: Scalars, store: GpeStore, next: Option<StateChange>) -> Machine
         ensures { result ≡ applied self x store next }
     {
         self.with_scalars(x).store(store).go_on(next)

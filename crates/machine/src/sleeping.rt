@@ -42,7 +42,7 @@ fn pending(settings: Settings, x: Scalars, state: u8) -> bool
     has_bit(x.pm1_sts & x.pm1_en, wake_bits(settings, state)) | x.gpe_pending
 }
 
-// What becomes of the sleep state in a step.
+// A change of the sleep state in a step. Where there is none, the state stays.
 #[derive(Clone, Copy)]
 pub enum StateChange {
     // from S1 to S4
@@ -52,12 +52,6 @@ pub enum StateChange {
     Override,
     // a press in S5
     Restart,
-}
-
-#[derive(Clone, Copy)]
-pub enum NextState {
-    Same,
-    Changed(StateChange),
 }
 
 impl Machine {
@@ -140,12 +134,13 @@ impl Machine {
         }
     }
 
-    pub(crate) fn go_on(self, next: NextState) -> Machine
+    #[tactic(auto, unfolding(crate::specs::Sleep::in_next_state))]
+    pub(crate) fn go_on(self, next: Option<StateChange>) -> Machine
         ensures { result ≡ in_next_state next self }
     {
         match next {
-            NextState::Same => self,
-            NextState::Changed(c) => self.change_state(c),
+            None => self,
+            Some(c) => self.change_state(c),
         }
     }
 }

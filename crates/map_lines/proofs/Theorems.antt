@@ -1,6 +1,6 @@
 -- The map says what the walk does: on a legal platform a port leads to a block exactly if the printed line of the block has it, and nowhere exactly if no
 -- line has it. A present block has a port and lies below 65,536, so that its line's digits read back as its first port and its last. Assumes nothing.
-use Rattle.std.proofs.Common.{◌≡◌, ℕ, zero, suc, ◌+◌, ◌-◌, ◌^◌, ◌<◌, ◌≤◌, true, List, [], ◌∷◌, ◌++◌, length, get_or, take, drop, sym, refl, ap, ◌∙◌, append_assoc, le_of_suc-le-suc, not-suc-le-zero, arith, lit<, take_at}
+use Rattle.std.proofs.Common.{◌≡◌, Option, Some, None, ℕ, zero, suc, ◌+◌, ◌-◌, ◌^◌, ◌<◌, ◌≤◌, true, List, [], ◌∷◌, ◌++◌, length, get_or, take, drop, sym, refl, ap, ◌∙◌, append_assoc, le_of_suc-le-suc, not-suc-le-zero, arith, lit<, take_at}
 use lib.Seq.{drop-append-add}
 use Rattle.platform.specs.Blocks.{present}
 use Rattle.platform.specs.FadtBlocks.{block_of, fadt_order}
@@ -11,9 +11,8 @@ use Rattle.platform.specs.declared.block.FadtBlock.TheVariants as fadt
 use Rattle.platform.specs.declared.settings.Settings.{Settings}
 use Rattle.platform.proofs.FadtOrder.{each}
 use Rattle.platform.proofs.Legal.{holds-from, legal-guaranteed}
-use Rattle.ports.specs.Walk.{walk}
+use Rattle.ports.specs.Walk.{in_block, walk}
 use Rattle.ports.specs.declared.Place.{Place}
-use Rattle.ports.specs.declared.Place.TheVariants as place
 use Rattle.ports.proofs.Theorems.{first-exactly, leads-to-own}
 use Rattle.records.specs.Ascii.{ascii}
 use Rattle.text.specs.Numbers.{number_of, digits}
@@ -87,7 +86,7 @@ module _ (s : Settings) (g : Guaranteed s) where
     last-is : number_in b 18 (printed s b) ≡ last_port (block_of s b)
     last-is = last-said (ascii (fadt_name b)) (block_of s b) (omega (arith, g.within_ports b, has-a-port b p))
 
-  line-leads : (b : FadtBlock) (port : ℕ) → InLine s b port → walk s port ≡ place.In b (port - (block_of s b).address)
+  line-leads : (b : FadtBlock) (port : ℕ) → InLine s b port → walk s port ≡ in_block b (port - (block_of s b).address)
   line-leads b port (p, low, high) =
       let address = (block_of s b).address in
       let from : address ≤ port = rw (first-is b p) at low in
@@ -95,28 +94,28 @@ module _ (s : Settings) (g : Guaranteed s) where
       let back : address + (port - address) ≡ port = omega arith in
       ap (walk s) (sym back) ∙ leads-to-own s b (port - address) p (omega (arith, has-a-port b p)) g.one_block
 
-  leads-in-line : (b : FadtBlock) (port offset : ℕ) → walk s port ≡ place.In b offset → InLine s b port
+  leads-in-line : (b : FadtBlock) (port offset : ℕ) → walk s port ≡ in_block b offset → InLine s b port
   leads-in-line b port offset e =
       let (p, low, high) = holds-from (block_of s b) port ((first-exactly s port b offset).0 e).inside in
       (p, rw (first-is b p) low, rw (last-is b p) (omega arith))
 
-  in-no-line : (port : ℕ) → ((b : FadtBlock) → InLine s b port → ⊥) → (q : Place) → walk s port ≡ q → q ≡ place.Nowhere
-  in-no-line port none (place.In b offset) e = absurd (none b (leads-in-line b port offset e))
-  in-no-line port none place.Nowhere e = refl
+  in-no-line : (port : ℕ) → ((b : FadtBlock) → InLine s b port → ⊥) → (q : Option Place) → walk s port ≡ q → q ≡ None
+  in-no-line port none (Some p) e = absurd (none p.block (leads-in-line p.block port p.offset e))
+  in-no-line port none None e = refl
 
-  in-none : (b : FadtBlock) (port : ℕ) → walk s port ≡ place.Nowhere → InLine s b port → ⊥
+  in-none : (b : FadtBlock) (port : ℕ) → walk s port ≡ None → InLine s b port → ⊥
   in-none b port e l = let no : ◌≡◌ {A = ℕ} 0 1 = cc (line-leads b port l) in omega arith
 
 module _ (s : Settings) (e : legal_settings s ≡ true) where
   -- to a block
   pub map-says-walk : (b : FadtBlock) (port : ℕ)
-      → (InLine s b port → walk s port ≡ place.In b (port - (block_of s b).address))
-      × (walk s port ≡ place.In b (port - (block_of s b).address) → InLine s b port)
+      → (InLine s b port → walk s port ≡ in_block b (port - (block_of s b).address))
+      × (walk s port ≡ in_block b (port - (block_of s b).address) → InLine s b port)
   map-says-walk b port = (line-leads s (legal-guaranteed s e) b port, leads-in-line s (legal-guaranteed s e) b port (port - (block_of s b).address))
 
   -- and nowhere
   pub map-says-nowhere : (port : ℕ)
-      → (((b : FadtBlock) → InLine s b port → ⊥) → walk s port ≡ place.Nowhere)
-      × (walk s port ≡ place.Nowhere → (b : FadtBlock) → InLine s b port → ⊥)
+      → (((b : FadtBlock) → InLine s b port → ⊥) → walk s port ≡ None)
+      × (walk s port ≡ None → (b : FadtBlock) → InLine s b port → ⊥)
   map-says-nowhere port =
       (λ none. in-no-line s (legal-guaranteed s e) port none (walk s port) refl, λ n b l. in-none s (legal-guaranteed s e) b port n l)

@@ -2,6 +2,7 @@
 -- rule's effect is the rule. Assumes nothing.
 use mathlib.Core.Path.{◌≡◌, refl, sym, ◌∙◌, ap, ap₂}
 use mathlib.Core.Bool.{Bool, true, false, cond, ◌&&◌, false≢true}
+use Rattle.std.specs.Prelude.{None}
 use Prim.Native.Nat.{ℕ}
 use lib.Bits.{or_zero_r}
 use Rattle.std.specs.declared.result.Result.TheVariants.{Ok}
@@ -10,7 +11,6 @@ use Rattle.clock.specs.declared.Clock.{Clock}
 use Rattle.platform.specs.declared.settings.Settings.{Settings}
 use Rattle.machine.specs.declared.Machine.{Machine}
 use Rattle.machine.specs.declared.scalars.Scalars.{Scalars}
-use Rattle.machine.specs.declared.sleeping.NextState.TheVariants as next
 use Rattle.machine.specs.Fields.{with_event, with_button, enter}
 use Rattle.machine.specs.Gpe.{byte_put, byte_stored, stores, stored}
 use Rattle.machine.specs.Lines.{awake}
@@ -138,8 +138,8 @@ effect-law m (step.Event e) =
     cond-ap (stepped_by m) (accepted (refusal_to m (step.Event e))) _ _
     ∙ ap₂ (cond (accepted (refusal_to m (step.Event e)))) (event-does m (event_bit e) (event_kind e)) (unmoved-stays m (refusal_to m (step.Event e)))
     ∙ sym (stepped-unless-refused m (step.Event e))
-effect-law m step.Take = unless-refused m step.Take (done m.command (scalars_of (take_of m)) next.Same) _ refl refl
-effect-law m step.Drop = unless-refused m step.Drop (done 0 (scalars_of (drop_of m)) next.Same) _ refl refl
+effect-law m step.Take = unless-refused m step.Take (done m.command (scalars_of (take_of m)) None) _ refl refl
+effect-law m step.Drop = unless-refused m step.Drop (done 0 (scalars_of (drop_of m)) None) _ refl refl
 
 -- ---- refusals, for the functions that give them
 

@@ -3,6 +3,7 @@
 -- Assumes nothing.
 use mathlib.Core.Bool.{Bool, true, false, not, cond, ◌&&◌, ◌||◌, or-true, false≢true}
 use mathlib.Core.List.{List, [], ◌∷◌}
+use Rattle.std.specs.Prelude.{Option, Some, None}
 use mathlib.Core.Path.{◌≡◌, refl, sym, ◌∙◌}
 use Prim.Native.Nat.{ℕ, suc, ◌+◌, ◌%◌, ◌^◌, ◌<◌}
 use native.Mathlib.Nat.{add-zero, mod-lt}
@@ -30,7 +31,6 @@ use Rattle.platform.specs.declared.settings.Settings.{Settings}
 use Rattle.platform.proofs.Legal.{holds-from}
 use Rattle.ports.specs.Walk.{walk, Means}
 use Rattle.ports.specs.declared.Place.{Place}
-use Rattle.ports.specs.declared.Place.TheVariants as place
 use Rattle.ports.proofs.Theorems.{walk-means}
 use Rattle.machine.specs.Status.{pwrbtn_bit, pciexp_wake_bit}
 use Rattle.registers.specs.Registers.{enable_in, covered, placed, in_status, in_enable, ones_in, status_after, enable_after, has_pm1b_cnt, covers_high, written_bit}
@@ -95,11 +95,11 @@ module _ (s : Settings) where
   unfolding register_at offset_at leads_nowhere
   reached port = go (walk s port) (walk-means s port)
     where
-      go : (p : Place) → Means s port p → Reached s (register_in p) (offset_in p)
-      go (place.In b offset) m n =
-          let (p, low, high) = holds-from (block_of s b) port m.inside in
-          rw (block_back b) (p, omega (arith, m.at))
-      go place.Nowhere m n = absurd (false≢true (sym n))
+      go : (p : Option Place) → Means s port p → Reached s (register_in p) (offset_in p)
+      go (Some p) m n =
+          let (there, low, high) = holds-from (block_of s p.block) port m.inside in
+          rw (block_back p.block) (there, omega (arith, m.at))
+      go None m n = absurd (false≢true (sym n))
 
 -- ---- the state that a pair names
 

@@ -1,6 +1,7 @@
 -- A step as its effect: the answer, the machine's scalars by the step's own rule, the general event byte that it stores, and what becomes of the
 -- sleep state. That a step is its effect, done to the machine, is `effect-law` of `proofs/Effects.antt`.
-use Rattle.std.specs.Prelude.{Bool, true, false, cond, ◌&&◌, ◌||◌, List, ℕ, ◌-◌, ◌/◌, ◌%◌, ◌^◌, eqb, get_or, Ok, Err}
+use Rattle.std.specs.Prelude.{Bool, true, false, Option, Some, None, cond, ◌&&◌, ◌||◌, List, ℕ, ◌-◌, ◌/◌, ◌%◌, ◌^◌, eqb, get_or, Ok, Err}
+use Rattle.std.specs.Bool.{then_some}
 use Rattle.std.specs.Int.Bits.{bit_or}
 use Rattle.acpi.specs.Bits.{ARB_DIS}
 use Rattle.bits.specs.Writes.{cleared_by}
@@ -11,8 +12,7 @@ use Rattle.machine.specs.declared.gpe.GpeArray.{GpeArray}
 use Rattle.machine.specs.declared.gpe.GpeArray.TheVariants as array
 use Rattle.machine.specs.declared.gpe.GpeStore.{GpeStore}
 use Rattle.machine.specs.declared.scalars.Scalars.{Scalars}
-use Rattle.machine.specs.declared.sleeping.NextState.{NextState}
-use Rattle.machine.specs.declared.sleeping.NextState.TheVariants as next
+use Rattle.machine.specs.declared.sleeping.StateChange.{StateChange}
 use Rattle.machine.specs.declared.sleeping.StateChange.TheVariants as change
 use Rattle.machine.specs.declared.sleeping.WakeSource.{WakeSource}
 use Rattle.machine.specs.Applied.{applied}
@@ -45,10 +45,10 @@ stepped_by m e = record { answer = e.answer; machine = applied m e.scalars e.sto
 
 -- the machine stays as it is
 abbrev pub unmoved : Scalars → Answer → Effect
-unmoved x a = record { answer = a; scalars = x; store = no_store; next = next.Same }
+unmoved x a = record { answer = a; scalars = x; store = no_store; next = None }
 
 -- accepted, with the value
-abbrev pub done : ℕ → Scalars → NextState → Effect
+abbrev pub done : ℕ → Scalars → Option StateChange → Effect
 done value x next = record { answer = Ok value; scalars = x; store = no_store; next = next }
 
 -- a refusal leaves the machine as it was
@@ -61,9 +61,9 @@ abbrev pub event_write : Machine → Bool → ℕ → ℕ → ℕ → Scalars
 event_write m b width offset written = scalars_of (with_event m (status_after m b width offset written) (enable_after m b width offset written))
 
 -- a sleep that the write completes
-unfoldable pub completing : Machine → Bool → ℕ → ℕ → ℕ → NextState
+unfoldable pub completing : Machine → Bool → ℕ → ℕ → ℕ → Option StateChange
 completing m b width offset written =
-    cond (completes m b width offset written) (next.Changed (change.Complete (named_state m b width offset written))) next.Same
+    then_some (completes m b width offset written) (change.Complete (named_state m b width offset written))
 
 -- a write to a control register: 27, or what it does
 unfoldable pub control_write : Machine → Bool → ℕ → ℕ → ℕ → Effect
@@ -86,15 +86,15 @@ abbrev pub en_byte : Settings → Bool → ℕ → ℕ → GpeStore
 en_byte s b offset written = record { place = offset - gpe_half s b; byte = written % 2 ^ 8; walks = true; array = en_array b }
 
 abbrev pub gpe_write : Scalars → GpeStore → Effect
-gpe_write x store = record { answer = Ok 0; scalars = x; store = store; next = next.Same }
+gpe_write x store = record { answer = Ok 0; scalars = x; store = store; next = None }
 
 -- an accepted write, by its register
 unfoldable pub write_effect : Machine → Register → ℕ → ℕ → ℕ → Effect
-write_effect m register.SmiCmd width offset written = done 0 (scalars_of (with_command m true (written % 2 ^ 8))) next.Same
-write_effect m (register.Pm1Evt b) width offset written = done 0 (event_write m b width offset written) next.Same
+write_effect m register.SmiCmd width offset written = done 0 (scalars_of (with_command m true (written % 2 ^ 8))) None
+write_effect m (register.Pm1Evt b) width offset written = done 0 (event_write m b width offset written) None
 write_effect m (register.Pm1Cnt b) width offset written =
     done 0 (scalars_of (controlled m b width offset written)) (completing m b width offset written)
-write_effect m register.Pm2Cnt width offset written = done 0 (scalars_of (with_arb_dis m (eqb (written / 2 ^ ARB_DIS % 2) 1))) next.Same
+write_effect m register.Pm2Cnt width offset written = done 0 (scalars_of (with_arb_dis m (eqb (written / 2 ^ ARB_DIS % 2) 1))) None
 write_effect m register.PmTmr width offset written = unmoved (scalars_of m) (Ok 0)
 write_effect m (register.Gpe b) width offset written =
     cond (in_gpe_status m.settings b offset) (gpe_write (scalars_of m) (sts_byte (gpe_sts_byte m b offset) b offset written)) (gpe_write (scalars_of m) (en_byte m.settings b offset written))
@@ -108,19 +108,19 @@ register_write m r width offset written =
 -- ---- events
 
 -- an event in S1 to S4 that wakes, or does not
-unfoldable pub wakes_if : ℕ → WakeSource → Bool → NextState
-wakes_if state source test = cond (is_sleeping state && test) (next.Changed (change.Wake source)) next.Same
+unfoldable pub wakes_if : ℕ → WakeSource → Bool → Option StateChange
+wakes_if state source test = then_some (is_sleeping state && test) (change.Wake source)
 
 -- "a press always" wakes; "From S5 only a press wakes"
-unfoldable pub press_wakes : ℕ → NextState
-press_wakes state = cond (is_s5 state) (next.Changed change.Restart) (wakes_if state (event_source event.Press) true)
+unfoldable pub press_wakes : ℕ → Option StateChange
+press_wakes state = cond (is_s5 state) (Some change.Restart) (wakes_if state (event_source event.Press) true)
 
 -- "Press sets PWRBTN, hold zero."
 unfoldable pub press_effect : Machine → Effect
 press_effect m = done 0 (scalars_of (with_button (raised m (event_mask event.Press)) true 0)) (press_wakes m.state)
 
 unfoldable pub release_effect : Machine → Effect
-release_effect m = done 0 (scalars_of (release_of m)) next.Same
+release_effect m = done 0 (scalars_of (release_of m)) None
 
 unfoldable pub signal_effect : Machine → StatusBit → Effect
 signal_effect m bit =
@@ -131,14 +131,14 @@ signal_effect m bit =
 abbrev pub pinned : Machine → Bool → Bool → Machine
 pinned m active wakes = raised (with_wake_pin m active) (cond wakes pciexp_wake_bit 0)
 
-unfoldable pub pin_next : Bool → NextState
-pin_next wakes = cond wakes (next.Changed (change.Wake (event_source event.PinActive))) next.Same
+unfoldable pub pin_next : Bool → Option StateChange
+pin_next wakes = then_some wakes (change.Wake (event_source event.PinActive))
 
 unfoldable pub pin_effect : Machine → Bool → Effect
 pin_effect m active = done 0 (scalars_of (pinned m active (pin_wakes m active))) (pin_next (pin_wakes m active))
 
 unfoldable pub notice_effect : Machine → ℕ → Effect
-notice_effect m mask = done 0 (scalars_of (raised m mask)) next.Same
+notice_effect m mask = done 0 (scalars_of (raised m mask)) None
 
 -- the status byte with event k's bit set
 abbrev pub raised_byte : List ℕ → ℕ → GpeArray → GpeStore
@@ -158,8 +158,8 @@ general_effect m k =
       next = wakes_if m.state (source_of (gpe k)) (general_enabled m k);
     })
 
-abbrev pub overridden_if : Bool → NextState
-overridden_if off = cond off (next.Changed change.Override) next.Same
+abbrev pub overridden_if : Bool → Option StateChange
+overridden_if off = then_some off change.Override
 
 -- the clock's turns, counter and hold, and the override
 abbrev pub clock_effect : Machine → Clock → Effect
@@ -191,5 +191,5 @@ effect_of m (step.Read a) = unmoved (scalars_of m) (answer_to m (step.Read a))
 effect_of m (step.Write a written) =
     unless_refused m (answer_to m (step.Write a written)) (write_effect m (register_of m a) a.width (offset_of m a) written)
 effect_of m (step.Event e) = event_effect m (event_bit e) (event_kind e)
-effect_of m step.Take = unless_refused m (answer_to m step.Take) (done m.command (scalars_of (take_of m)) next.Same)
-effect_of m step.Drop = unless_refused m (answer_to m step.Drop) (done 0 (scalars_of (drop_of m)) next.Same)
+effect_of m step.Take = unless_refused m (answer_to m step.Take) (done m.command (scalars_of (take_of m)) None)
+effect_of m step.Drop = unless_refused m (answer_to m step.Drop) (done 0 (scalars_of (drop_of m)) None)

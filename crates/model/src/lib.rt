@@ -6,7 +6,7 @@ ghost use Rattle.model.specs.Answer.{step_number, step_value};
 ghost use Rattle.model.specs.Effect.{unmoved, done};
 ghost use Rattle.model.specs.Step.{accepted};
 
-use machine::{GpeStore, Machine, NextState, Scalars};
+use machine::{GpeStore, Machine, Scalars, StateChange};
 
 // A bus access: its width in bytes, and its first port. In this order the port is a word of its own within a step, and a copied
 // step is read back as it was written.
@@ -90,7 +90,7 @@ pub struct Effect {
     pub answer: Answer,
     pub scalars: Scalars,
     pub store: GpeStore,
-    pub next: NextState,
+    pub next: Option<StateChange>,
 }
 
 // The registers that a port may lead to; of two blocks, true is block B, or GPE1.
@@ -138,12 +138,12 @@ pub fn unmoved(scalars: Scalars, answer: Answer) -> Effect
         answer,
         scalars,
         store: GpeStore::nothing(),
-        next: NextState::Same,
+        next: None,
     }
 }
 
 // Accepted, with the value; the scalars change, and what becomes of the sleep state is given.
-pub fn done(value: u32, scalars: Scalars, next: NextState) -> Effect
+pub fn done(value: u32, scalars: Scalars, next: Option<StateChange>) -> Effect
     ensures { result ≡ done value scalars next }
 {
     Effect {

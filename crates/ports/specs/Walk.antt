@@ -1,19 +1,22 @@
 -- Where a port leads, and what that means. Request W4: "one public walk over the present blocks in the order of their FADT address fields, SMI_CMD
 -- first: for a port it gives the first that holds it and the offset in it, or none exactly if no block does".
-use Rattle.std.specs.Prelude.{true, false, cond, List, [], ◌∷◌, ◌≡◌, ℕ, ◌-◌, ◌<◌}
+use Rattle.std.specs.Prelude.{true, false, cond, Option, Some, None, List, [], ◌∷◌, ◌≡◌, ℕ, ◌-◌, ◌<◌}
 use Rattle.platform.specs.Blocks.{present, holds}
 use Rattle.platform.specs.FadtBlocks.{address_field, block_of, fadt_order}
 use Rattle.platform.specs.declared.block.FadtBlock.{FadtBlock}
 use Rattle.platform.specs.declared.settings.Settings.{Settings}
 use Rattle.ports.specs.declared.Place.{Place}
-use Rattle.ports.specs.declared.Place.TheVariants as place
+
+-- in a block, at an offset
+abbrev pub in_block : FadtBlock → ℕ → Option Place
+in_block b offset = Some (record { block = b; offset = offset })
 
 -- the first of these blocks that holds the port (an absent block holds none), and how far the port lies past its address
-unfoldable pub walk_over : Settings → ℕ → List FadtBlock → Place
-walk_over s port [] = place.Nowhere
-walk_over s port (b ∷ bs) = cond (holds (block_of s b) port) (place.In b (port - (block_of s b).address)) (walk_over s port bs)
+unfoldable pub walk_over : Settings → ℕ → List FadtBlock → Option Place
+walk_over s port [] = None
+walk_over s port (b ∷ bs) = cond (holds (block_of s b) port) (in_block b (port - (block_of s b).address)) (walk_over s port bs)
 
-abbrev pub walk : Settings → ℕ → Place
+abbrev pub walk : Settings → ℕ → Option Place
 walk s port = walk_over s port fadt_order
 
 -- ---- what each answer means
@@ -30,6 +33,6 @@ pub record FirstHolds (s : Settings) (port : ℕ) (b : FadtBlock) (offset : ℕ)
   pub no_earlier : (c : FadtBlock) → address_field c < address_field b → holds (block_of s c) port ≡ false
   pub at : offset ≡ port - (block_of s b).address
 
-abbrev pub Means : Settings → ℕ → Place → Type 0
-Means s port (place.In b offset) = FirstHolds s port b offset
-Means s port place.Nowhere = NoneHolds s port
+abbrev pub Means : Settings → ℕ → Option Place → Type 0
+Means s port (Some p) = FirstHolds s port p.block p.offset
+Means s port None = NoneHolds s port

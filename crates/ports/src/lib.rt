@@ -2,28 +2,27 @@
 #![tactic(auto)]
 
 ghost use Rattle.std.specs.Prelude.{◌≡◌, ◌-◌};
-ghost use Rattle.ports.specs.Walk.{walk};
-ghost use Rattle.ports.specs.declared.Place.TheVariants as place;
+ghost use Rattle.ports.specs.Walk.{in_block, walk};
 
 use platform::{Block, FadtBlock, Settings, holds_port};
 
-// Where a port leads: into a block, at an offset, or nowhere.
+// Where a port leads: into a block, at an offset.
 #[derive(Clone, Copy)]
-pub enum Place {
-    In(FadtBlock, u64),
-    Nowhere,
+pub struct Place {
+    pub block: FadtBlock,
+    pub offset: u64,
 }
 
-fn inside(name: FadtBlock, b: Block, port: u64) -> Place
-    ensures { result ≡ place.In name (port - b.address) }
+fn inside(block: FadtBlock, b: Block, port: u64) -> Option<Place>
+    ensures { result ≡ in_block block (port - b.address) }
 {
     let offset = platform::offset(b, port);
-    Place::In(name, offset)
+    Some(Place { block, offset })
 }
 
-// One walk over the blocks in the order of their FADT address fields, SMI_CMD first: the first that is present and holds the port.
+// One walk over the blocks in the order of their FADT address fields, SMI_CMD first: the first that is present and holds the port, or none.
 #[tactic(auto, unfolding(crate::specs::Walk::walk_over))]
-pub fn walk(s: Settings, port: u64) -> Place
+pub fn walk(s: Settings, port: u64) -> Option<Place>
     ensures { result ≡ walk s port }
 {
     let smi_cmd = Block::new(s.smi_cmd, 1);
@@ -62,5 +61,5 @@ pub fn walk(s: Settings, port: u64) -> Place
     if holds_port(gpe1, port) {
         return inside(FadtBlock::Gpe1Blk, gpe1, port);
     }
-    Place::Nowhere
+    None
 }

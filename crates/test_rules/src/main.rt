@@ -3,7 +3,6 @@
 
 use cells::Column;
 use platform::{Block, Settings};
-use ports::Place;
 
 fn main(rt: HostRuntime) {
     status(&rt);
@@ -194,10 +193,7 @@ fn power_on(out: &impl Print) {
 
 // The offset that the walk finds; FF where it finds none.
 fn offset(s: Settings, port: u64) -> u64 {
-    match ports::walk(s, port) {
-        Place::In(_, at) => at,
-        Place::Nowhere => 0xFF,
-    }
+    ports::walk(s, port).map_or(0xFF, |p| p.offset)
 }
 
 // Two blocks that share ports, as no rule has judged them: the port is the first one's.
