@@ -113,13 +113,9 @@ pub enum Column {
 pub fn mask(of: Column, flags: u32, timer: bool) -> u16
     ensures { result ≡ mask_of of flags timer cells }
 {
-    let table = CELLS;
-    let mut m: u16 = 0;
-    let mut i: usize = 0;
-    while i < 8 {
-        let c = table[i];
-        m = m | cell_bit(of, flags, timer, c);
-        i += 1;
+    let mut m = 0;
+    for c in CELLS {
+        m |= cell_bit(of, flags, timer, c);
     }
     m
 }

@@ -147,11 +147,9 @@ fn wrong_table_length(table: &[u8]) -> bool
 fn sum_all(bytes: &[u8]) -> u8
     ensures { result ≡ sum bytes.now % 256 }
 {
-    let mut total: u8 = 0;
-    let mut i: usize = 0;
-    while i < bytes.len() {
-        total = wrapping_add_u8(total, bytes[i]);
-        i += 1;
+    let mut total = 0;
+    for byte in bytes {
+        total = wrapping_add_u8(total, *byte);
     }
     total
 }

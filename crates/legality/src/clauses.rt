@@ -32,14 +32,7 @@ fn enables_legal(m: Machine) -> bool
 fn any_set(bytes: [u8; GPE_BYTES], from: usize) -> bool
     ensures { result ≡ any (ltb 0) (drop from bytes) }
 {
-    let mut i = from;
-    while i < GPE_BYTES {
-        if 0 < bytes[i] {
-            return true;
-        }
-        i += 1;
-    }
-    false
+    bytes.iter().skip(from).any(|byte| 0 < *byte)
 }
 
 // No byte is set past the block's own.

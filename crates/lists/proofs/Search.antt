@@ -10,6 +10,14 @@ use native.Mathlib.Omega.{arith}
 use native.Mathlib.Nat.{le_of_suc-le-suc, not-suc-le-zero}
 use lib.ListN.{length, get_or, drop, drop_of_length-le}
 use lib.Seq.{drop-cons}
+use Rattle.std.specs.Fn.{Called}
+use Rattle.std.specs.Iterator.{YieldsThen}
+use Rattle.std.specs.List.{list_any, FoldsTo}
+use Rattle.std.specs.Option.{MatchOption}
+use Rattle.std.proofs.Common.{Option}
+use Rattle.std.proofs.lemmas.Iterator.{YieldsList}
+use Rattle.std.proofs.lemmas.Iterator.Search.{any_from_yields_List}
+use denote.Param.Members.{Mut}
 use Rattle.lists.specs.Any.{any, any_two, joined, any_of, first_at}
 use Rattle.lists.proofs.Tests.{or_left, or_right}
 
@@ -93,3 +101,15 @@ pub map-within : {A B : Type 0} (f : A → B) (d : A) (e : B) (xs : List A) (i :
 map-within f d e [] i h = absurd (not-suc-le-zero h)
 map-within f d e (x ∷ xs) zero h = refl
 map-within f d e (x ∷ xs) (suc i) h = map-within f d e xs i (le_of_suc-le-suc h)
+
+-- the search that a chain `.iter().any(..)` promises
+pub any_is_list_any : {A : Type 0} (f : A → Bool) (xs : List A) → any f xs ≡ list_any f xs
+unfolding any
+any_is_list_any f [] = refl
+any_is_list_any f (x ∷ xs) = rw (any_is_list_any f xs) refl
+
+-- what `any` answers at the end of a chain
+pub any_from_chain : {S A B F : Type 0} {steps : S → Option A → S → Type 0} {v : A → B} {g : Mut F (A × Unit {0}) Bool} {s : S} {all : List B} (test : B → Bool) (u : S) (f : F) (r : Bool)
+    → (xs : List A) × (o : Option A) × (j : F) × YieldsThen steps s xs o u × FoldsTo (λ p x q. Called g p (x, tt) false q) f xs j × MatchOption o (r ≡ false) (λ x. (r ≡ true) × ((h : F) × Called g j (x, tt) true h))
+    → YieldsList steps v s all → ((x : A) (b : Bool) (q : F) → Called g f (x, tt) b q → (q ≡ f) × (b ≡ test (v x))) → r ≡ any test all
+any_from_chain {all = all} test u f r ran yields calls = rw (any_is_list_any test all) (any_from_yields_List test u f r ran yields calls)

@@ -60,10 +60,8 @@ fn any_enabled(sts: [u8; GPE_BYTES], en: [u8; GPE_BYTES]) -> bool
     ensures { result ≡ any_enabled sts en }
 {
     let mut found = false;
-    let mut i = 0;
-    while i < GPE_BYTES {
-        found = found | has_bit8(sts[i], en[i]);
-        i += 1;
+    for i in 0..GPE_BYTES {
+        found |= has_bit8(sts[i], en[i]);
     }
     found
 }

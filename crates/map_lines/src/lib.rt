@@ -65,11 +65,8 @@ pub fn write_map(buf: &mut [u8], s: Settings) -> usize
 {
     let blocks = platform::blocks(s);
     let mut at: usize = 0;
-    let mut i: usize = 0;
-    while i < BLOCKS {
-        let b = blocks[i];
-        at += put_block(buf, at, i, b);
-        i += 1;
+    for i in 0..BLOCKS {
+        at += put_block(buf, at, i, blocks[i]);
     }
     at
 }

@@ -200,14 +200,7 @@ fn misaligned(n: u64, b: Block) -> bool
 fn any_passes_ports(bs: [Block; BLOCKS]) -> bool
     ensures { result ≡ any passes_ports bs }
 {
-    let mut i = 0;
-    while i < BLOCKS {
-        if passes_ports(bs[i]) {
-            return true;
-        }
-        i += 1;
-    }
-    false
+    bs.iter().any(|b| passes_ports(*b))
 }
 
 fn place_refused(s: Settings) -> bool
@@ -233,17 +226,13 @@ fn overlap_refused(s: Settings) -> bool
     ensures { result ≡ overlap_refused s }
 {
     let bs = blocks(s);
-    let mut i = 0;
-    while i < BLOCKS {
+    for i in 0..BLOCKS {
         let b = bs[i];
-        let mut j = i + 1;
-        while j < BLOCKS {
+        for j in i + 1..BLOCKS {
             if overlaps(b, bs[j]) {
                 return true;
             }
-            j += 1;
         }
-        i += 1;
     }
     false
 }

@@ -1,7 +1,7 @@
 // The pairs of sleep type values of S0 to S5: rule 12, and the state that a pair names.
 #![tactic(auto)]
 
-ghost use Rattle.std.specs.Prelude.{◌≡◌, drop};
+ghost use Rattle.std.specs.Prelude.{◌≡◌};
 ghost use Rattle.lists.specs.Any.{any, any_two};
 ghost use Rattle.sleep.specs.Pairs.{sleep_table, absent, out_of_range, same_pair, shared, sleep_refused, named, state_of};
 
@@ -58,38 +58,18 @@ fn shared(p: [u8; 2], q: [u8; 2], b_control: bool) -> bool
 fn any_out_of_range(pairs: [[u8; 2]; 6]) -> bool
     ensures { result ≡ any out_of_range pairs }
 {
-    let mut i = 0;
-    while i < 6 {
-        if out_of_range(pairs[i]) {
-            return true;
-        }
-        i += 1;
-    }
-    false
-}
-
-fn shared_with_later(p: [u8; 2], pairs: [[u8; 2]; 6], from: usize, b_control: bool) -> bool
-    ensures { result ≡ any (shared b_control p) (drop from pairs) }
-{
-    let mut j = from;
-    while j < 6 {
-        if shared(p, pairs[j], b_control) {
-            return true;
-        }
-        j += 1;
-    }
-    false
+    pairs.iter().any(|p| out_of_range(*p))
 }
 
 fn any_shared(pairs: [[u8; 2]; 6], b_control: bool) -> bool
     ensures { result ≡ any_two (shared b_control) pairs }
 {
-    let mut i = 0;
-    while i < 6 {
-        if shared_with_later(pairs[i], pairs, i + 1, b_control) {
-            return true;
+    for i in 0..6 {
+        for j in i + 1..6 {
+            if shared(pairs[i], pairs[j], b_control) {
+                return true;
+            }
         }
-        i += 1;
     }
     false
 }

@@ -30,11 +30,14 @@ end : (of : Column) (flags : ℕ) (timer : Bool) (xs : List Cell) (i m : ℕ) �
 unfolding mask_of
 end of flags timer xs i m h = rw (drop_of_length-le xs h) (or_zero_r m)
 
-pub loop-i-preserved : goal.loop-i-preserved
-loop-i-preserved c =
+pub loop-c-preserved : goal.loop-c-preserved
+loop-c-preserved c =
     let a = c.args in
-    let l = c.loop-i in
-    (omega arith, rw c.cell_bit-m.ensures (turn a.of a.flags a.timer cells past l.i l.m c.loop-i-test.true ∙ l.invariant.1))
+    let l = c.loop-c in
+    let h : l.c-index < length cells = omega arith in
+    rw c.cell_bit-m.ensures (turn a.of a.flags a.timer cells past l.c-index l.m h ∙ l.invariant)
 
 pub returns : goal.returns
-returns c = sym (end _ _ _ cells _ _ c.loop-i-test.false) ∙ c.loop-i.invariant.1
+returns c =
+    let h : length cells ≤ c.loop-c.c-index = omega arith in
+    sym (end _ _ _ cells _ _ h) ∙ c.loop-c.invariant

@@ -2,13 +2,9 @@
 -- the whole walk finds. Assumes nothing.
 use mathlib.Core.Path.{◌≡◌}
 use mathlib.Core.Bool.{◌||◌}
-use Prim.Native.Nat.{◌-◌}
-use lib.ListN.{length, drop}
+use lib.ListN.{drop}
 use Rattle.machine.specs.Lines.{any_enabled}
 use Rattle.machine.proofs.gpe.any_enabled.Given as goal
 
 abbrev pub invariant-loop-i : goal.invariant-loop-i
 invariant-loop-i l = (l.found || any_enabled (drop l.i l.sts) (drop l.i l.en)) ≡ any_enabled l.sts l.en
-
-abbrev pub decreases-loop-i : goal.decreases-loop-i
-decreases-loop-i l = length l.sts - l.i
