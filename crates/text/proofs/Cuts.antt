@@ -1,14 +1,18 @@
 -- Laws of parts: the first part and the rest, part n by its place, what is joined is cut again and what is cut joined again,
 -- and the turns of the loops. By recursion on the text. Assumes nothing.
-use mathlib.Core.Path.{◌≡◌, refl, sym, ◌∙◌}
+use mathlib.Core.Path.{◌≡◌, refl, sym, ap, ◌∙◌}
 use mathlib.Core.Bool.{Bool, true, false, cond}
 use mathlib.Core.List.{List, [], ◌∷◌, ◌++◌}
 use Prim.Native.Nat.{ℕ, zero, suc, ◌+◌, ◌-◌, ◌≤◌, ◌<◌, suc-le-suc}
-use native.Mathlib.Nat.{add-suc, zero-add, le_of_suc-le-suc, not-suc-le-zero}
+use native.Mathlib.Nat.{add-suc, le_of_suc-le-suc, not-suc-le-zero}
 use native.Mathlib.Numerals.{add-one}
 use native.Mathlib.Omega.{arith}
-use borrow.Author.Tests.{eqb-true, eq-eqb}
-use lib.Dec.{eqb}
+use borrow.Author.Tests.{ltb-false, eqb-true, eq-eqb}
+use lib.Dec.{ltb, eqb}
+use Rattle.std.specs.Option.{unwrap_or}
+use Rattle.std.proofs.Common.{Some, None}
+use Rattle.std.specs.List.{count_by, position, position_or_len}
+use Rattle.std.proofs.lemmas.List.Recursion.{is_count_by, is_position_or_len}
 use lib.ListN.{length, get_or, take, drop, length-drop, drop_of_length-le}
 use lib.Seq.{drop-cons, drop-drop, take_all}
 use Rattle.lists.specs.Any.{any, first_at}
@@ -25,6 +29,25 @@ module _ (s : ℕ) where
       go : (t : Bool) → stop_at s xs ≤ length xs → cond t 0 (suc (stop_at s xs)) ≤ suc (length xs)
       go true h = omega arith
       go false h = omega arith
+
+  -- the first stop, as a search for its place finds it
+  stop_found : (xs : List ℕ) → stop_at s xs ≡ position_or_len (λ x. eqb x s) xs
+  unfolding first_at
+  stop_found xs = is_position_or_len (λ ys. stop_at s ys) (λ x. eqb x s) refl (λ x ys. ap (λ (n : ℕ). cond (eqb x s) 0 n) (omega arith)) xs
+
+  pub stop_or_end : (xs : List ℕ) → unwrap_or (position (λ x. eqb x s) xs) (length xs) ≡ stop_at s xs
+  stop_or_end xs = go (ltb (position_or_len (λ x. eqb x s) xs) (length xs)) refl
+    where
+      go : (t : Bool) → ltb (position_or_len (λ x. eqb x s) xs) (length xs) ≡ t
+          → unwrap_or (cond t (Some (position_or_len (λ x. eqb x s) xs)) None) (length xs) ≡ stop_at s xs
+      go true e = sym (stop_found xs)
+      go false e =
+          let past = ltb-false (position_or_len (λ x. eqb x s) xs) (length xs) e in
+          omega (arith, stop_found xs, stop-within xs)
+
+  pub end-past : (xs : List ℕ) (i : ℕ) → length xs ≤ i → end_of s xs i ≡ i
+  unfolding first_at
+  end-past xs i h = rw (drop_of_length-le xs h) (omega arith)
 
   pub end-within : (xs : List ℕ) (i : ℕ) → i ≤ length xs → end_of s xs i ≤ length xs
   end-within xs i h = let w = stop-within (drop i xs) in omega (arith, length-drop i xs)
@@ -159,21 +182,21 @@ module _ (s : ℕ) where
       go true = omega arith
       go false = on-first-some x (parts s xs)
 
-  pub count_turn : (xs : List ℕ) (i : ℕ) → i < length xs
-      → length (parts s (drop i xs)) ≡ cond (eqb (get_or xs i 0) s) 1 0 + length (parts s (drop (i + 1) xs))
+  -- one more than the stops
+  part-count-step : (x : ℕ) (xs : List ℕ) → length (parts s (x ∷ xs)) - 1 ≡ cond (eqb x s) (1 + (length (parts s xs) - 1)) (length (parts s xs) - 1)
   unfolding cut
-  count_turn xs i h = rw (drop-cons xs i 0 h, add-one) (go (eqb (get_or xs i 0) s))
+  part-count-step x xs = go (eqb x s)
     where
-      rest : List (List ℕ)
-      rest = parts s (drop (suc i) xs)
+      go : (t : Bool) → length (cond t ([] ∷ parts s xs) (on_first x (parts s xs))) - 1 ≡ cond t (1 + (length (parts s xs) - 1)) (length (parts s xs) - 1)
+      go true = let some = parts-some xs in omega arith
+      go false = let same = on-first-length x (parts s xs) (parts-some xs) in omega arith
 
-      go : (t : Bool) → length (cond t ([] ∷ rest) (on_first (get_or xs i 0) rest)) ≡ cond t 1 0 + length rest
-      go true = omega arith
-      go false = on-first-length (get_or xs i 0) rest (parts-some (drop (suc i) xs)) ∙ sym (zero-add (length rest))
-
-  pub count-end : (xs : List ℕ) (i : ℕ) → length xs ≤ i → length (parts s (drop i xs)) ≡ 1
+  pub part_total : (xs : List ℕ) → count_by (λ x. eqb x s) xs + 1 ≡ length (parts s xs)
   unfolding cut
-  count-end xs i h = rw (drop_of_length-le xs h)
+  part_total xs =
+      let some = parts-some xs in
+      let stops = is_count_by (λ ys. length (parts s ys) - 1) (λ x. eqb x s) refl part-count-step xs in
+      omega arith
 
   -- what was cut is joined again
   join_more : (p : List ℕ) (ps : List (List ℕ)) → 1 ≤ length ps → join_by s (p ∷ ps) ≡ p ++ (s ∷ join_by s ps)

@@ -1,10 +1,11 @@
 -- Laws of numbers as texts: what is written reads back, what was read is written as it stood, and what fits.
 -- By recursion on the digits, in any base of 2 to 16. Assumes nothing.
 use mathlib.Core.Path.{◌≡◌, refl, sym, ap, ◌∙◌}
-use mathlib.Core.Bool.{Bool, true, false, cond, ◌&&◌}
+use Rattle.std.proofs.Common.{Some, None}
+use mathlib.Core.Bool.{Bool, true, false, cond, ◌&&◌, and-false as and_false}
 use mathlib.Core.List.{List, [], ◌∷◌, ◌++◌, append_assoc, append-nil}
 use Prim.Native.Nat.{ℕ, zero, suc, ◌+◌, ◌*◌, ◌/◌, ◌%◌, ◌^◌, ◌≤◌, ◌<◌}
-use native.Mathlib.Nat.{add-zero, add-suc, suc-add, zero-add, mul-one, mul_assoc, mul-le-mul_right, mul-le-mul_left, mod-lt, div-add-mod', div-lt_iff_lt-mul, pow-le-pow_right, suc-mul, pow-zero, pow-suc, pow-succ', one-le-pow, lt_of_lt_of_le, one-mul}
+use native.Mathlib.Nat.{add-zero, add-suc, suc-add, zero-add, mul-one, mul_assoc, mul-le-mul_right, mod-lt, div-add-mod', div-lt_iff_lt-mul, pow-le-pow_right, suc-mul, pow-zero, pow-suc, pow-succ', one-le-pow, lt_of_lt_of_le, one-mul}
 use native.Mathlib.Numerals.{add-one}
 use native.Mathlib.Omega.{arith}
 use borrow.Author.Tests.{ltb-true, ltb-false, lt-ltb, le-ltb, le-leb, leb-true, eqb-true, eq-eqb, ne_eqb}
@@ -14,7 +15,7 @@ use lib.ListN.{length, length-append}
 use Rattle.lists.specs.Any.{any}
 use Rattle.lists.proofs.Tests.{or_left, or_right, and_left, and_right}
 use Rattle.text.specs.Parts.{has_stop}
-use Rattle.text.specs.Numbers.{digit_of, glyph, value_from, value_of, all_digits, is_number, number_of, digits, as_written}
+use Rattle.text.specs.Numbers.{digit_of, digit_in, glyph, value_from, value_of, all_digits, is_number, number_in, number_of, digits, as_written}
 
 -- a digit reads as what was written
 pub digit-of-glyph : (d : ℕ) → d < 16 → digit_of (glyph d) ≡ d
@@ -28,6 +29,23 @@ digit-of-glyph d h = go (ltb d 10) refl
     go false e =
         let l : 10 ≤ d = ltb-false d 10 e in
         rw (le-ltb (55 + d) 48 (omega arith), le-ltb (55 + d) 58 (omega arith), le-ltb (55 + d) 65 (omega arith), lt-ltb (55 + d) 71 (omega arith)) (omega arith)
+
+-- a byte that shows a digit, and one that shows none
+pub digit_shown : (x d : ℕ) → digit_in x ≡ Some d → (digit_of x ≡ d) × (d < 16)
+unfolding digit_in
+digit_shown x d e = go (ltb (digit_of x) 16) refl e
+  where
+    go : (t : Bool) → ltb (digit_of x) 16 ≡ t → cond t (Some (digit_of x)) None ≡ Some d → (digit_of x ≡ d) × (d < 16)
+    go true h k = let same : digit_of x ≡ d = cc in let below = ltb-true (digit_of x) 16 h in (same, omega arith)
+    go false h k = cc
+
+pub no_digit : (x : ℕ) → digit_in x ≡ None → ltb (digit_of x) 16 ≡ false
+unfolding digit_in
+no_digit x e = go (ltb (digit_of x) 16) e
+  where
+    go : (t : Bool) → cond t (Some (digit_of x)) None ≡ None → t ≡ false
+    go true h = cc
+    go false h = refl
 
 -- one digit more at the end
 value-snoc : (b n : ℕ) (xs : List ℕ) (y : ℕ) → value_from b n (xs ++ (y ∷ [])) ≡ value_from b n xs * b + digit_of y
@@ -74,6 +92,15 @@ written_all b (x ∷ xs) e =
 pub written-number : (b m : ℕ) (xs : List ℕ) → 1 ≤ length xs → length xs ≤ m → as_written b xs ≡ true → is_number b m xs ≡ true
 unfolding is_number
 written-number b m xs l h e = rw (lt-ltb 0 (length xs) l, le-leb (length xs) m h) (written_all b xs e)
+
+-- a text of digits that is not too short or too long is a number, and one with a byte that is no digit is none
+pub number-in-digits : (b m : ℕ) (xs : List ℕ) → 1 ≤ length xs → length xs ≤ m → all_digits b xs ≡ true → number_in b m xs ≡ Some (value_of b xs)
+unfolding number_in is_number
+number-in-digits b m xs l h e = rw (lt-ltb 0 (length xs) l, le-leb (length xs) m h, e) refl
+
+pub number-in-none : (b m : ℕ) (xs : List ℕ) → all_digits b xs ≡ false → number_in b m xs ≡ None
+unfolding number_in is_number
+number-in-none b m xs e = rw (e, and_false, and_false) refl
 
 -- a text that is a number is its value
 pub number-is-value : (b m : ℕ) (xs : List ℕ) → is_number b m xs ≡ true → number_of b m xs ≡ value_of b xs
@@ -178,12 +205,3 @@ module _ (b : ℕ) (two : 1 < b) where
       let rest = and_right (ltb 0 (length xs)) _ e in
       let short : length xs ≤ m = leb-true (length xs) m (and_left _ _ rest) in
       lt_of_lt_of_le (rw one-mul at (value-below 0 xs (and_right (leb (length xs) m) _ rest))) (pow-le-pow_right some short)
-
-  -- digits read on make a number no smaller
-  pub value_grows : (n : ℕ) (xs : List ℕ) → n ≤ value_from b n xs
-  unfolding value_from
-  value_grows n [] = omega arith
-  value_grows n (x ∷ xs) =
-      let ih = value_grows (n * b + digit_of x) xs in
-      let more : n * 1 ≤ n * b = mul-le-mul_left n (omega arith) in
-      omega (arith, mul-one n)

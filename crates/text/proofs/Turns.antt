@@ -2,7 +2,8 @@
 use mathlib.Core.Path.{◌≡◌, refl}
 use mathlib.Core.Bool.{true, ◌&&◌}
 use mathlib.Core.List.{List}
-use Prim.Native.Nat.{ℕ, suc, ◌+◌, ◌*◌, ◌/◌, ◌%◌, ◌≤◌, ◌<◌}
+use Prim.Native.Nat.{ℕ, suc, ◌+◌, ◌*◌, ◌/◌, ◌%◌, ◌^◌, ◌≤◌, ◌<◌}
+use native.Mathlib.Nat.{mul-le-mul_right, suc-mul, pow-suc}
 use native.Mathlib.Numerals.{add-one}
 use native.Mathlib.Omega.{arith}
 use lib.Dec.{ltb}
@@ -10,7 +11,7 @@ use lib.ListN.{length, get_or, set, drop, drop_of_length-le}
 use lib.Seq.{sets, drop-cons}
 use Rattle.text.proofs.Stores.{sets-append, sets-set}
 use Rattle.text.specs.Numbers.{digit_of, glyph, value_from, all_digits, digits}
-use Rattle.text.proofs.Digits.{digits-length, value_grows}
+use Rattle.text.proofs.Digits.{digits-length}
 
 -- the loops over a text: one turn at its byte i, and the end
 pub all-digits-turn : (b : ℕ) (xs : List ℕ) (i : ℕ) → i < length xs
@@ -27,9 +28,9 @@ pub value-turn : (b n : ℕ) (xs : List ℕ) (i : ℕ) → i < length xs
 unfolding value_from
 value-turn b n xs i h = rw (drop-cons xs i 0 h, add-one)
 
--- a turn of the reader makes no number larger than the whole
-pub value_room : (b : ℕ) → 1 < b → (n : ℕ) (xs : List ℕ) (i : ℕ) → i < length xs → n * b + digit_of (get_or xs i 0) ≤ value_from b n (drop i xs)
-value_room b two n xs i h = rw (value-turn b n xs i h) (value_grows b two (n * b + digit_of (get_or xs i 0)) (drop (i + 1) xs))
+-- a digit more, a power more
+pub value_room : (b n d i : ℕ) → n < b ^ i → d < b → n * b + d < b ^ (i + 1)
+value_room b n d i h k = let top : suc n * b ≤ b ^ i * b = mul-le-mul_right b h in rw (add-one, pow-suc) (omega (arith, suc-mul n b))
 
 pub value-end : (b n : ℕ) (xs : List ℕ) (i : ℕ) → length xs ≤ i → value_from b n (drop i xs) ≡ n
 unfolding value_from

@@ -1,5 +1,5 @@
 -- Numbers as texts: digits in a base of 2 to 16, the highest first.
-use Rattle.std.specs.Prelude.{Bool, true, cond, ◌&&◌, List, [], ◌∷◌, ◌++◌, ℕ, zero, suc, ◌+◌, ◌-◌, ◌*◌, ◌/◌, ◌%◌, eqb, ltb, leb, length}
+use Rattle.std.specs.Prelude.{Bool, true, cond, ◌&&◌, Option, Some, None, List, [], ◌∷◌, ◌++◌, ℕ, zero, suc, ◌+◌, ◌-◌, ◌*◌, ◌/◌, ◌%◌, eqb, ltb, leb, length}
 
 -- the digit that a byte shows: `0` to `9` (48 on), `A` to `F` (65 on) or `a` to `f` (97 on); 16 where it shows none
 unfoldable pub digit_of : ℕ → ℕ
@@ -10,6 +10,10 @@ digit_of x =
     (cond (ltb x 71) (x - 55)
     (cond (ltb x 97) 16
     (cond (ltb x 103) (x - 87) 16)))))
+
+-- the digit that a byte shows, where it shows one
+unfoldable pub digit_in : ℕ → Option ℕ
+digit_in x = cond (ltb (digit_of x) 16) (Some (digit_of x)) None
 
 -- the byte of a digit, upper case
 unfoldable pub glyph : ℕ → ℕ
@@ -32,6 +36,10 @@ all_digits b (x ∷ xs) = ltb (digit_of x) b && all_digits b xs
 -- a text is a number: 1 to `most` bytes, each a digit of the base
 unfoldable pub is_number : ℕ → ℕ → List ℕ → Bool
 is_number b most xs = ltb 0 (length xs) && (leb (length xs) most && all_digits b xs)
+
+-- the number that a text is, where it is one
+unfoldable pub number_in : ℕ → ℕ → List ℕ → Option ℕ
+number_in b most xs = cond (is_number b most xs) (Some (value_of b xs)) None
 
 -- the number that a text is; 0 where it is none
 unfoldable pub number_of : ℕ → ℕ → List ℕ → ℕ

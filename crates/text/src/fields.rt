@@ -1,6 +1,6 @@
 // The fields of a line, parted by tabs and counted from 0. A field that is not there is empty.
 ghost use Rattle.std.specs.Prelude.{◌≡◌, [], length, get_or};
-ghost use Rattle.text.specs.Numbers.{number_of};
+ghost use Rattle.text.specs.Numbers.{number_in};
 ghost use Rattle.text.specs.Parts.{fields_of, same_text};
 
 use crate::numbers::hex_value;
@@ -26,9 +26,9 @@ pub fn field_is(line: &[u8], n: usize, word: &[u8]) -> bool
     same(field(line, n), word)
 }
 
-// The number that field n is, in hex; 0 where it is none.
-pub fn field_hex(line: &[u8], n: usize) -> u64
-    ensures { result ≡ number_of 16 16 (get_or (fields_of line.now) n []) }
+// The number that field n is, in hex.
+pub fn field_hex(line: &[u8], n: usize) -> Option<u64>
+    ensures { result ≡ number_in 16 16 (get_or (fields_of line.now) n []) }
 {
     hex_value(field(line, n))
 }

@@ -7,6 +7,6 @@ mod parts;
 mod writes;
 
 pub use fields::{field, field_count, field_hex, field_is};
-pub use numbers::{decimal_digits, digit_of, hex_value, is_hex, write_decimal, write_hex};
+pub use numbers::{decimal_digits, digit_of, hex_value, write_decimal, write_hex};
 pub use parts::{line_count, line_from, next_line, part, part_count, part_end, part_from, same};
 pub use writes::{write_byte, write_text};

@@ -1,31 +1,36 @@
 // Numbers: hex read and written, decimal written.
-ghost use Rattle.std.specs.Prelude.{◌≡◌, ◌≤◌, ◌<◌, ◌^◌};
+ghost use Rattle.std.specs.Prelude.{◌≡◌, ◌≤◌, ◌<◌};
 ghost use Rattle.std.proofs.lemmas.List.Edits.{sets};
 ghost use Rattle.text.specs.Numbers.{
-  digit_of,
+  digit_in,
   glyph,
-  value_of,
-  all_digits,
-  is_number,
-  number_of,
+  number_in,
   digits,
   digit_count,
 };
 
 use crate::writes::store;
 
-// A text of 1 to 16 hex digits, of either case.
-pub fn is_hex(text: &[u8]) -> bool
-    ensures { result ≡ is_number 16 16 text.now }
-{
-    is_number(text, 16, 16)
-}
+// The most digits that a number of 64 bits is read from.
+const MOST: usize = 16;
 
-// The number that the text is; 0 where it is none.
-pub fn hex_value(text: &[u8]) -> u64
-    ensures { result ≡ number_of 16 16 text.now }
+// The number that a text of 1 to 16 hex digits, of either case, is.
+#[tactic(auto, unfolding(crate::specs::Numbers::number_in, crate::specs::Numbers::is_number))]
+pub fn hex_value(text: &[u8]) -> Option<u64>
+    ensures { result ≡ number_in 16 16 text.now }
 {
-    if is_hex(text) { value(text, 16) } else { 0 }
+    if text.is_empty() {
+        return None;
+    }
+    if MOST < text.len() {
+        return None;
+    }
+    let mut n: u64 = 0;
+    for x in text {
+        let digit = digit_of(*x)?;
+        n = n * 16 + u64::from(digit);
+    }
+    Some(n)
 }
 
 // The fewest decimal digits that show n.
@@ -49,29 +54,17 @@ pub fn write_decimal(buf: &mut [u8], at: usize, n: u64, width: usize)
     write_digits(buf, at, n, width, 10);
 }
 
-// The digit that a byte shows; 16 where it shows none. 48 is `0`, 65 `A` and 97 `a`.
-pub fn digit_of(byte: u8) -> u8
-    ensures { result ≡ digit_of byte }
+// The digit that a byte shows.
+#[tactic(auto, unfolding(crate::specs::Numbers::digit_in, crate::specs::Numbers::digit_of))]
+pub fn digit_of(byte: u8) -> Option<u8>
+    ensures { result ≡ digit_in byte }
 {
-    if byte < 48 {
-        return 16;
+    match byte {
+        b'0'..=b'9' => Some(byte - b'0'),
+        b'A'..=b'F' => Some(byte - b'A' + 10),
+        b'a'..=b'f' => Some(byte - b'a' + 10),
+        _ => None,
     }
-    if byte < 58 {
-        return byte - 48;
-    }
-    if byte < 65 {
-        return 16;
-    }
-    if byte < 71 {
-        return byte - 55;
-    }
-    if byte < 97 {
-        return 16;
-    }
-    if byte < 103 {
-        return byte - 87;
-    }
-    16
 }
 
 fn glyph_of(d: u64) -> u8
@@ -83,46 +76,6 @@ fn glyph_of(d: u64) -> u8
     } else {
         (55 + d) as u8
     }
-}
-
-// Each byte shows a digit below the base.
-fn all_digits(text: &[u8], base: u64) -> bool
-    ensures { result ≡ all_digits base text.now }
-{
-    let mut i = 0;
-    while i < text.len() {
-        if base <= digit_of(text[i]) as u64 {
-            return false;
-        }
-        i += 1;
-    }
-    true
-}
-
-// 1 to `most` bytes, each a digit of the base.
-fn is_number(text: &[u8], base: u64, most: usize) -> bool
-    ensures { result ≡ is_number base most text.now }
-{
-    if text.len() == 0 {
-        return false;
-    }
-    if most < text.len() {
-        return false;
-    }
-    all_digits(text, base)
-}
-
-fn value(text: &[u8], base: u64) -> u64
-    requires { (1 < base) × (value_of base text.now < 2 ^ 64) }
-    ensures { result ≡ value_of base text.now }
-{
-    let mut n: u64 = 0;
-    let mut i = 0;
-    while i < text.len() {
-        n = n * base + digit_of(text[i]) as u64;
-        i += 1;
-    }
-    n
 }
 
 fn digit_count(n: u64, base: u64) -> usize
@@ -144,9 +97,7 @@ fn write_digits(buf: &mut [u8], at: usize, n: u64, width: usize, base: u64)
     ensures { buf.new ≡ sets buf.old at (digits base width n) }
 {
     let mut rest = n;
-    let mut i = width;
-    while 0 < i {
-        i -= 1;
+    for i in (0..width).rev() {
         store(buf, at, i, glyph_of(rest % base));
         rest = rest / base;
     }

@@ -1,32 +1,41 @@
 // Parts of a text between stop bytes, and its lines.
-ghost use Rattle.std.specs.Prelude.{◌≡◌, [], length, get_or, drop};
-ghost use Rattle.text.specs.Parts.{lf, front, parts, lines_of, past_stops, end_of, next_line, same_text};
+ghost use Rattle.std.specs.Prelude.{◌≡◌, ◌==◌, position, [], length, get_or, drop};
+ghost use Rattle.text.specs.Parts.{lf, stop_at, front, parts, lines_of, past_stops, end_of, next_line, same_text};
 
 const LF: u8 = 10;
+
+// The place of the first stop.
+fn first_stop(text: &[u8], stop: u8) -> Option<usize>
+    ensures { result ≡ position (λ x. x == stop) text.now }
+{
+    text.iter().position(|x| *x == stop)
+}
+
+// The same; the length where there is none.
+fn stop_at(text: &[u8], stop: u8) -> usize
+    ensures { result ≡ stop_at stop text.now }
+{
+    first_stop(text, stop).unwrap_or(text.len())
+}
 
 // The end of the part that begins at `start`: the first stop from there on, or else the text's end; past that, `start`.
 pub fn part_end(text: &[u8], start: usize, stop: u8) -> usize
     ensures { result ≡ end_of stop text.now start }
 {
-    let mut i = start;
-    while i < text.len() {
-        if text[i] == stop {
-            return i;
-        }
-        i += 1;
+    match text.get(start..) {
+        Some(rest) => start + stop_at(rest, stop),
+        None => start,
     }
-    i
 }
 
 // The part that begins at `start`, without its stop.
 pub fn part_from<'a>(text: &'a [u8], start: usize, stop: u8) -> &'a [u8]
     ensures { result.now ≡ front stop (drop start text.now) }
 {
-    if text.len() < start {
-        return &text[0..0];
+    match text.get(start..) {
+        Some(rest) => &rest[..stop_at(rest, stop)],
+        None => &[],
     }
-    let end = part_end(text, start, stop);
-    &text[start..end]
 }
 
 // The start of part n, counted from 0; the text's end where there is none.
@@ -34,17 +43,15 @@ fn part_start(text: &[u8], stop: u8, n: usize) -> usize
     ensures { result ≡ past_stops stop n text.now }
 {
     let mut left = n;
-    let mut i = 0;
-    while i < text.len() {
+    for (i, x) in text.iter().enumerate() {
         if left == 0 {
             return i;
         }
-        if text[i] == stop {
+        if *x == stop {
             left -= 1;
         }
-        i += 1;
     }
-    i
+    text.len()
 }
 
 // Part n, counted from 0; empty where there is none.
@@ -55,18 +62,12 @@ pub fn part<'a>(text: &'a [u8], stop: u8, n: usize) -> &'a [u8]
     part_from(text, start, stop)
 }
 
+// One more than the stops.
+#[tactic(auto, using(crate::proofs::Cuts::part_total))]
 pub fn part_count(text: &[u8], stop: u8) -> usize
     ensures { result ≡ length (parts stop text.now) }
 {
-    let mut count: usize = 1;
-    let mut i = 0;
-    while i < text.len() {
-        if text[i] == stop {
-            count += 1;
-        }
-        i += 1;
-    }
-    count
+    text.iter().filter(|x| **x == stop).count() + 1
 }
 
 // The line that begins at `start`, without its LF.
@@ -100,17 +101,9 @@ pub fn line_count(text: &[u8]) -> usize
     count
 }
 
+#[tactic(auto, using(crate::proofs::Equal::same_pointwise))]
 pub fn same(a: &[u8], b: &[u8]) -> bool
     ensures { result ≡ same_text a.now b.now }
 {
-    if a.len() != b.len() {
-        return false;
-    }
-    let mut alike = true;
-    let mut i = 0;
-    while i < a.len() {
-        alike = alike & (a[i] == b[i]);
-        i += 1;
-    }
-    alike
+    a == b
 }

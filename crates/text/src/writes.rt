@@ -24,9 +24,7 @@ pub(crate) fn store(buf: &mut [u8], at: usize, i: usize, byte: u8)
 pub fn write_text(buf: &mut [u8], at: usize, text: &[u8])
     ensures { buf.new ≡ sets buf.old at text.now }
 {
-    let mut i = 0;
-    while i < text.len() {
-        store(buf, at, i, text[i]);
-        i += 1;
+    for (i, x) in text.iter().enumerate() {
+        store(buf, at, i, *x);
     }
 }

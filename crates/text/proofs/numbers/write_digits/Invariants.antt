@@ -8,6 +8,3 @@ use Rattle.text.proofs.numbers.write_digits.Given as goal
 
 abbrev pub invariant-loop-i : goal.invariant-loop-i
 invariant-loop-i l = (sets l.buf l.at (digits l.base l.i l.rest) ≡ sets l.initial.buf l.at (digits l.base l.width l.n)) × (length l.buf ≡ length l.initial.buf)
-
-abbrev pub decreases-loop-i : goal.decreases-loop-i
-decreases-loop-i l = l.i

@@ -5,7 +5,7 @@ use borrow.Author.Tests.{eq-eqb, ne_eqb}
 use lib.ListN.{length, drop}
 use Rattle.text.proofs.Cuts.{past-turn, past-none, past_end}
 use Rattle.text.proofs.parts.part_start.Goals as goal
-use Rattle.text.proofs.parts.part_start.Goals.{then-text-i, else-text-i}
+use Rattle.text.proofs.parts.part_start.Goals.{then-x-stop, else-x-stop}
 
 pub returns-then-left-eq0 : goal.returns-then-left-eq0
 returns-then-left-eq0 c =
@@ -17,7 +17,7 @@ loop-i-preserved c =
     let h : c.loop-i.i < length c.args.text.now = omega arith in
     let more : 0 < c.loop-i.left = omega arith in
     let turn = sym (past-turn c.args.stop c.args.text.now c.loop-i.left c.loop-i.i h more) ∙ c.loop-i.invariant in
-    elim c.if-text-i.branch [ then-text-i w ↦ rw w.left-is (rw (eq-eqb _ _ w.if-text-i.true) at turn) | else-text-i w ↦ rw w.left-is (rw (ne_eqb _ _ w.if-text-i.false) at turn) ]
+    elim c.if-x-stop.branch [ then-x-stop w ↦ rw w.left-is (rw (eq-eqb _ _ w.if-x-stop.true) at turn) | else-x-stop w ↦ rw w.left-is (rw (ne_eqb _ _ w.if-x-stop.false) at turn) ]
 
 pub returns : goal.returns
 returns c =

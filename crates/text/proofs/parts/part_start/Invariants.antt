@@ -8,6 +8,3 @@ use Rattle.text.proofs.parts.part_start.Given as goal
 
 abbrev pub invariant-loop-i : goal.invariant-loop-i
 invariant-loop-i l = l.i + past_stops l.stop l.left (drop l.i l.text) ≡ past_stops l.stop l.n l.text
-
-abbrev pub decreases-loop-i : goal.decreases-loop-i
-decreases-loop-i l = length l.text - l.i

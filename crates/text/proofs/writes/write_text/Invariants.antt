@@ -8,6 +8,3 @@ use Rattle.text.proofs.writes.write_text.Given as goal
 
 abbrev pub invariant-loop-i : goal.invariant-loop-i
 invariant-loop-i l = (sets l.buf (l.at + l.i) (drop l.i l.text) ≡ sets l.initial.buf l.at l.text) × (length l.buf ≡ length l.initial.buf)
-
-abbrev pub decreases-loop-i : goal.decreases-loop-i
-decreases-loop-i l = length l.text - l.i
