@@ -3,7 +3,7 @@
 use mathlib.Core.Bool.{Bool, true, false, not, cond, ◌&&◌, ◌||◌, and-true, and-false, and_assoc}
 use mathlib.Core.List.{List, [], ◌∷◌}
 use mathlib.Core.Path.{◌≡◌, refl, sym, ◌∙◌}
-use Rattle.std.proofs.Common.{Err}
+use Rattle.std.proofs.Common.{Result, Err}
 use Rattle.lists.specs.Any.{any}
 use Rattle.platform.specs.Answer.{Rule, if_done, first_failing}
 use Rattle.platform.specs.Legal.{stray_length, legal_settings}
@@ -14,19 +14,17 @@ use Rattle.model.specs.Legal.{status_legal, enables_legal, gpe_legal, arb_dis_le
 use Rattle.legality.specs.Legality.{one_value, after_settings, legality_of, is_legal}
 use Rattle.legality.specs.declared.Clause.{Clause}
 use Rattle.legality.specs.declared.Clause.TheVariants as clause
-use Rattle.legality.specs.declared.Legality.{Legality}
-use Rattle.legality.specs.declared.Legality.TheVariants as legality
 
 -- it is legal where the clause holds and no later one is broken
-legal-if : (t : Bool) (c : Clause) (y : Legality) → is_legal (cond (not t) (legality.Breaks c) y) ≡ (t && is_legal y)
+legal-if : (t : Bool) (c : Clause) (y : Result (Unit {0}) Clause) → is_legal (cond (not t) (Err c) y) ≡ (t && is_legal y)
 legal-if true c y = refl
 legal-if false c y = refl
 
 -- a rule of setting up that refuses
-abbrev settings_clause : SetUpRefusal → Legality
-settings_clause r = legality.Breaks (clause.Settings r)
+abbrev settings_clause : SetUpRefusal → Result (Unit {0}) Clause
+settings_clause r = Err (clause.Settings r)
 
-legal-settings : (rs : List Rule) (y : Legality) → is_legal (if_done (first_failing rs) y settings_clause) ≡ (not (any (λ r. r.refused) rs) && is_legal y)
+legal-settings : (rs : List Rule) (y : Result (Unit {0}) Clause) → is_legal (if_done (first_failing rs) y settings_clause) ≡ (not (any (λ r. r.refused) rs) && is_legal y)
 unfolding first_failing any
 legal-settings [] y = refl
 legal-settings (r ∷ rs) y = go r.refused (legal-settings rs y)

@@ -1,14 +1,13 @@
 // The clauses of the list, a function each.
-ghost use Rattle.std.specs.Prelude.{false, true, not, cond, ◌&&◌, ◌||◌, ◌≡◌, ◌^◌, eqb, ltb, get_or, drop};
+ghost use Rattle.std.specs.Prelude.{false, true, not, cond, ◌&&◌, ◌||◌, ◌≡◌, ◌^◌, eqb, ltb, get_or, drop, Ok, Err};
 ghost use Rattle.lists.specs.Any.{any};
 ghost use Rattle.clock.specs.Clock.{counter_bits};
 ghost use Rattle.sleep.specs.Pairs.{absent};
 ghost use Rattle.platform.specs.Legal.{stray_length};
 ghost use Rattle.model.specs.Legal.{only_if, absent_pair, status_legal, enables_legal, bytes_legal, gpe_legal, arb_dis_legal, state_legal, counter_legal, hold_legal, button_legal, wake_pin_legal, command_legal, armed_legal, slp_typ_b_legal, slp_typs_legal, gpe_pending_legal};
-ghost use Rattle.legality.specs.declared.Legality.TheVariants as legality;
 ghost use Rattle.legality.specs.Legality.{one_value, after_settings, legality_of};
 
-use crate::{Clause, Legality};
+use crate::Clause;
 use clock::HOLD_LIMIT;
 use machine::{GPE_BYTES, Machine, PCIEXP_WAKE, PWRBTN, awake, has_bit};
 use platform::{Block, is_present};
@@ -198,40 +197,39 @@ fn gpe_pending_legal(m: Machine) -> bool
     m.gpe_pending == found.gpe_pending
 }
 
-// A clause, and those after it.
-fn unless(kept: bool, clause: Clause, rest: Legality) -> Legality
-    ensures { result ≡ cond (not kept) (legality.Breaks clause) rest }
+// The clause is broken unless it is kept.
+fn unless(kept: bool, clause: Clause) -> Result<(), Clause>
+    ensures { result ≡ cond (not kept) (Err clause) (Ok tt) }
 {
-    if kept { rest } else { Legality::Breaks(clause) }
+    if kept { Ok(()) } else { Err(clause) }
 }
 
-// The clauses after the settings', the last one first.
-fn after_settings(m: Machine) -> Legality
+// The clauses after the settings'.
+#[tactic(auto, unfolding(crate::specs::Legality::after_settings))]
+fn after_settings(m: Machine) -> Result<(), Clause>
     ensures { result ≡ after_settings m }
 {
-    let all = unless(gpe_pending_legal(m), Clause::GpePending, Legality::Legal);
-    let all = unless(one_value(m), Clause::OneValue, all);
-    let all = unless(slp_typ_b_legal(m), Clause::SlpTypB, all);
-    let all = unless(armed_legal(m), Clause::Armed, all);
-    let all = unless(command_legal(m), Clause::Command, all);
-    let all = unless(wake_pin_legal(m), Clause::WakePin, all);
-    let all = unless(button_legal(m), Clause::Button, all);
-    let all = unless(hold_legal(m), Clause::Hold, all);
-    let all = unless(counter_legal(m), Clause::Counter, all);
-    let all = unless(state_legal(m), Clause::State, all);
-    let all = unless(arb_dis_legal(m), Clause::ArbDis, all);
-    let all = unless(gpe_legal(m), Clause::GeneralEvents, all);
-    let all = unless(enables_legal(m), Clause::Enables, all);
-    unless(status_legal(m), Clause::Status, all)
+    unless(status_legal(m), Clause::Status)?;
+    unless(enables_legal(m), Clause::Enables)?;
+    unless(gpe_legal(m), Clause::GeneralEvents)?;
+    unless(arb_dis_legal(m), Clause::ArbDis)?;
+    unless(state_legal(m), Clause::State)?;
+    unless(counter_legal(m), Clause::Counter)?;
+    unless(hold_legal(m), Clause::Hold)?;
+    unless(button_legal(m), Clause::Button)?;
+    unless(wake_pin_legal(m), Clause::WakePin)?;
+    unless(command_legal(m), Clause::Command)?;
+    unless(armed_legal(m), Clause::Armed)?;
+    unless(slp_typ_b_legal(m), Clause::SlpTypB)?;
+    unless(one_value(m), Clause::OneValue)?;
+    unless(gpe_pending_legal(m), Clause::GpePending)
 }
 
 // The first clause of the list that the machine breaks.
-pub fn judge(m: Machine) -> Legality
+#[tactic(auto, unfolding(crate::specs::Legality::legality_of))]
+pub fn judge(m: Machine) -> Result<(), Clause>
     ensures { result ≡ legality_of m }
 {
-    let s = m.settings;
-    match platform::judge(s) {
-        Err(r) => Legality::Breaks(Clause::Settings(r)),
-        Ok(()) => after_settings(m),
-    }
+    platform::judge(m.settings).map_err(Clause::Settings)?;
+    after_settings(m)
 }

@@ -5,6 +5,7 @@ use mathlib.Core.Path.{◌≡◌, refl, sym, ◌∙◌, ap}
 use Prim.Native.Nat.{ℕ, ◌+◌, ◌%◌}
 use lib.Dec.{eqb, lit<}
 use lib.ListN.{drop}
+use Rattle.std.proofs.Common.{Result, Ok, Err}
 use Rattle.lists.specs.Any.{first_at}
 use Rattle.lists.proofs.Tests.{and_left, and_right}
 use Rattle.text.specs.Numbers.{digits, digit_count, count_within, glyph}
@@ -20,8 +21,7 @@ use Rattle.model.specs.Legal.{listed, fits_types, legal}
 use Rattle.model.specs.Step.{after, step_of}
 use Rattle.model.specs.declared.Step.{Step}
 use Rattle.legality.specs.Legality.{legality_of, is_legal, if_legal}
-use Rattle.legality.specs.declared.Legality.{Legality}
-use Rattle.legality.specs.declared.Legality.TheVariants as legality
+use Rattle.legality.specs.declared.Clause.{Clause}
 use Rattle.legality.proofs.Laws.{listed-exactly}
 use Rattle.values.specs.Agree.{agreeing}
 use Rattle.values.specs.Values.{values_of, values_agree}
@@ -53,10 +53,10 @@ legal-exactly p =
 done-legal : (m : Machine) (vs : List ℕ) → is_done (legal_answer m vs) ≡ (is_legal (legality_of m) && same_text (values_of m) vs)
 done-legal m vs = go (legality_of m) (same_text (values_of m) vs) (agreeing (values_of m) vs + 2)
   where
-    go : (x : Legality) (t : Bool) (line : ℕ) → is_done (if_legal x (cond t answer.Done (answer.Stray line)) answer.Illegal) ≡ (is_legal x && t)
-    go legality.Legal true line = refl
-    go legality.Legal false line = refl
-    go (legality.Breaks c) t line = refl
+    go : (x : Result (Unit {0}) Clause) (t : Bool) (line : ℕ) → is_done (if_legal x (cond t answer.Done (answer.Stray line)) answer.Illegal) ≡ (is_legal x && t)
+    go (Ok _) true line = refl
+    go (Ok _) false line = refl
+    go (Err c) t line = refl
 
 module _ (edition : ℕ) (text : List ℕ) where
   done-parts : is_done (read_parts edition text (parts_in edition text)).answer ≡ (well_formed edition text && legal_text edition text)
@@ -154,20 +154,20 @@ newest-read : (text : List ℕ) → read_in newest text ≡ read_parts newest te
 unfolding read_in
 newest-read text = refl
 
-legal-judged : (m : Machine) → legal m ≡ true → legality_of m ≡ legality.Legal
+legal-judged : (m : Machine) → legal m ≡ true → legality_of m ≡ Ok tt
 unfolding legal
 legal-judged m e = go (legality_of m) (sym (listed-exactly m) ∙ and_left (listed m) (fits_types m) e)
   where
-    go : (x : Legality) → is_legal x ≡ true → x ≡ legality.Legal
-    go legality.Legal h = refl
-    go (legality.Breaks c) h = absurd (false≢true h)
+    go : (x : Result (Unit {0}) Clause) → is_legal x ≡ true → x ≡ Ok tt
+    go (Ok _) h = refl
+    go (Err c) h = absurd (false≢true h)
 
 written_same : (m : Machine) → same_text (saved_text m) (text_of newest (parts_of m)) ≡ true
 unfolding saved_text
 written_same m = same_self (text_of newest (parts_of m))
 
 -- a text that is as it was printed, of a legal machine with its own values
-all-well : (text printed vs : List ℕ) (m n : Machine) → same_text text printed ≡ true → n ≡ m → legality_of m ≡ legality.Legal → same_text (values_of m) vs ≡ true
+all-well : (text printed vs : List ℕ) (m n : Machine) → same_text text printed ≡ true → n ≡ m → legality_of m ≡ Ok tt → same_text (values_of m) vs ≡ true
     → read_as (first_refusal (text_answer text printed) (legal_answer n vs)) n ≡ record { answer = answer.Done; machine = m }
 all-well text printed vs m n same e lawful own = rw (e, same, lawful, own) refl
 

@@ -7,9 +7,9 @@ use lib.Dec.{eqb}
 use native.Mathlib.Omega.{arith}
 use lib.ListN.{length, drop}
 use lib.Seq.{drop-drop}
+use Rattle.std.proofs.Common.{Ok}
 use Rattle.machine.specs.declared.Machine.{Machine}
 use Rattle.legality.specs.Legality.{legality_of}
-use Rattle.legality.specs.declared.Legality.TheVariants as legality
 use Rattle.values.specs.Agree.{agreeing}
 use Rattle.values.specs.Values.{values_of}
 use Rattle.values.proofs.Agreeing.{same-exactly}
@@ -24,7 +24,7 @@ use Rattle.saved.specs.declared.ReadAnswer.{ReadAnswer}
 use Rattle.saved.specs.declared.ReadAnswer.TheVariants as answer
 
 -- the answer on a legal machine, by the place of the first value that is not the machine's
-pub legal-answer : (m : Machine) (vs : List ℕ) → length vs ≡ row_count → legality_of m ≡ legality.Legal
+pub legal-answer : (m : Machine) (vs : List ℕ) → length vs ≡ row_count → legality_of m ≡ Ok tt
     → (stray : ℕ) → stray ≡ agreeing (values_of m) vs → (r : ReadAnswer) → r ≡ cond (eqb stray row_count) answer.Done (answer.Stray (stray + 2))
     → r ≡ legal_answer m vs
 legal-answer m vs long legal stray e r f =

@@ -8,7 +8,6 @@ ghost use Rattle.saved.specs.Reading.{edition_up_to, malformed_line, text_answer
 
 use crate::print::{gpe_at, own, print, records_at, text_length};
 use crate::{ReadAnswer, ReadBack};
-use legality::Legality;
 use machine::{GPE_BYTES, Machine, all_zero};
 use records::{RECORDS, read_bytes, read_records};
 use text::{line_from, part_count, same};
@@ -71,10 +70,9 @@ fn judge_values(stray: usize) -> ReadAnswer
 fn judge_machine(m: Machine, values: [u64; RECORDS]) -> ReadAnswer
     ensures { result ≡ legal_answer m values }
 {
-    let legality = legality::judge(m);
-    match legality {
-        Legality::Legal => judge_values(first_stray(m, values)),
-        Legality::Breaks(clause) => ReadAnswer::Illegal(clause),
+    match legality::judge(m) {
+        Ok(()) => judge_values(first_stray(m, values)),
+        Err(clause) => ReadAnswer::Illegal(clause),
     }
 }
 

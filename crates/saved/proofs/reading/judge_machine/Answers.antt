@@ -12,7 +12,7 @@ pub judge_values-requires : goal.judge_values-requires
 judge_values-requires c =
     rw c.first_stray.ensures (agree-first (values_of c.args.m) c.args.values)
 
-pub returns-in-Legal : goal.returns-in-Legal
-returns-in-Legal c =
+pub returns-in-Ok : goal.returns-in-Ok
+returns-in-Ok c =
     let long : length c.args.values ≡ row_count = search rules in
-    legal-answer c.args.m c.args.values long (sym c.judge-legality.ensures ∙ c.in-Legal.is) _ c.first_stray.ensures _ c.judge_values.ensures
+    legal-answer c.args.m c.args.values long (sym c.judge.ensures ∙ c.in-Ok.is) _ c.first_stray.ensures _ c.judge_values.ensures
