@@ -5,7 +5,7 @@ ghost use Rattle.std.specs.Prelude.{◌≡◌, ◌+◌, length};
 ghost use Rattle.files.specs.Counts.{IsPrefixLen};
 ghost use Rattle.session.specs.Session.{limit};
 
-use session::{LIMIT, SessionAnswer};
+use session::{LIMIT, SessionRefusal};
 use std::fs::{File, Files};
 use std::io::Read;
 
@@ -63,12 +63,9 @@ fn within(length: usize, listing: &[u8]) -> usize
     if length <= listing.len() { length } else { 0 }
 }
 
-fn print(rt: &impl Print, answer: SessionAnswer, listing: &[u8]) {
-    match answer {
-        SessionAnswer::Written(length) => {
-            let n = within(length, listing);
-            files::say(rt, &listing[..n]);
-        }
-        _ => {}
+fn print(rt: &impl Print, answer: Result<usize, SessionRefusal>, listing: &[u8]) {
+    if let Ok(length) = answer {
+        let n = within(length, listing);
+        files::say(rt, &listing[..n]);
     }
 }

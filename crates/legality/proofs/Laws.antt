@@ -3,6 +3,7 @@
 use mathlib.Core.Bool.{Bool, true, false, not, cond, ◌&&◌, ◌||◌, and-true, and-false, and_assoc}
 use mathlib.Core.List.{List, [], ◌∷◌}
 use mathlib.Core.Path.{◌≡◌, refl, sym, ◌∙◌}
+use Rattle.std.specs.Prelude.{⊤}
 use Rattle.std.proofs.Common.{Result, Err}
 use Rattle.lists.specs.Any.{any}
 use Rattle.platform.specs.Answer.{Rule, if_done, first_failing}
@@ -16,15 +17,15 @@ use Rattle.legality.specs.declared.Clause.{Clause}
 use Rattle.legality.specs.declared.Clause.TheVariants as clause
 
 -- it is legal where the clause holds and no later one is broken
-legal-if : (t : Bool) (c : Clause) (y : Result (Unit {0}) Clause) → is_legal (cond (not t) (Err c) y) ≡ (t && is_legal y)
+legal-if : (t : Bool) (c : Clause) (y : Result ⊤ Clause) → is_legal (cond (not t) (Err c) y) ≡ (t && is_legal y)
 legal-if true c y = refl
 legal-if false c y = refl
 
 -- a rule of setting up that refuses
-abbrev settings_clause : SetUpRefusal → Result (Unit {0}) Clause
+abbrev settings_clause : SetUpRefusal → Result ⊤ Clause
 settings_clause r = Err (clause.Settings r)
 
-legal-settings : (rs : List Rule) (y : Result (Unit {0}) Clause) → is_legal (if_done (first_failing rs) y settings_clause) ≡ (not (any (λ r. r.refused) rs) && is_legal y)
+legal-settings : (rs : List Rule) (y : Result ⊤ Clause) → is_legal (if_done (first_failing rs) y settings_clause) ≡ (not (any (λ r. r.refused) rs) && is_legal y)
 unfolding first_failing any
 legal-settings [] y = refl
 legal-settings (r ∷ rs) y = go r.refused (legal-settings rs y)

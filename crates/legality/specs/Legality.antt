@@ -1,5 +1,5 @@
 -- The first clause of W2's list, with W3's in it and after it W7's, that a machine breaks. That a machine breaks none exactly if it passes the list is `listed-exactly` of `proofs/Laws.antt`.
-use Rattle.std.specs.Prelude.{Bool, true, false, not, cond, ◌&&◌, Result, Ok, Err}
+use Rattle.std.specs.Prelude.{⊤, Bool, true, false, not, cond, ◌&&◌, Result, Ok, Err}
 use Rattle.platform.specs.Answer.{if_done, first_failing}
 use Rattle.platform.specs.Legal.{stray_length}
 use Rattle.platform.specs.Rules.{settings_rules}
@@ -13,7 +13,7 @@ unfoldable pub one_value : Machine → Bool
 one_value m = not (stray_length m.settings.pm1b_evt) && not (stray_length m.settings.pm1b_cnt) && command_byte_legal m && slp_typs_legal m
 
 -- the list from "no unfitted or reserved bit" on; last request W7's "A legal machine has it right"
-unfoldable pub after_settings : Machine → Result (Unit {0}) Clause
+unfoldable pub after_settings : Machine → Result ⊤ Clause
 after_settings m =
     cond (not (status_legal m)) (Err clause.Status)
     (cond (not (enables_legal m)) (Err clause.Enables)
@@ -32,15 +32,15 @@ after_settings m =
     (Ok tt))))))))))))))
 
 -- "settings pass rules 5 to 12": the first that refuses; then the other clauses
-unfoldable pub legality_of : Machine → Result (Unit {0}) Clause
+unfoldable pub legality_of : Machine → Result ⊤ Clause
 legality_of m = if_done (first_failing (settings_rules m.settings)) (after_settings m) (λ r. Err (clause.Settings r))
 
 -- no clause is broken
-abbrev pub is_legal : Result (Unit {0}) Clause → Bool
+abbrev pub is_legal : Result ⊤ Clause → Bool
 is_legal (Ok _) = true
 is_legal (Err c) = false
 
 -- one thing where it is legal, and another, by the clause, where it is not
-abbrev pub if_legal : {A : Type 0} → Result (Unit {0}) Clause → A → (Clause → A) → A
+abbrev pub if_legal : {A : Type 0} → Result ⊤ Clause → A → (Clause → A) → A
 if_legal (Ok _) done broken = done
 if_legal (Err c) done broken = broken c

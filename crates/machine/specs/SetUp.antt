@@ -1,5 +1,5 @@
 -- Setting up, whole.
-use Rattle.std.specs.Prelude.{Bool, List, ℕ, Result}
+use Rattle.std.specs.Prelude.{⊤, Bool, List, ℕ, Result}
 use Rattle.platform.specs.Answer.{if_done, first_failing}
 use Rattle.platform.specs.declared.rules.SetUpRefusal.{SetUpRefusal}
 use Rattle.platform.specs.declared.settings.Settings.{Settings}
@@ -10,7 +10,7 @@ use Rattle.machine.specs.declared.Machine.{Machine}
 use Rattle.machine.specs.declared.SetUp.{SetUp}
 
 -- "0 is success with a machine, any refusal to make one gives it all zero"
-abbrev pub machine_for : Result (Unit {0}) SetUpRefusal → Settings → Machine
+abbrev pub machine_for : Result ⊤ SetUpRefusal → Settings → Machine
 machine_for answer s = if_done answer (power_on s) (λ line. all_zero)
 
 -- "The first failing line of this table is the answer": of the bytes lent, and of the settings

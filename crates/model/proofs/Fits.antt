@@ -7,6 +7,7 @@ use Prim.Native.Nat.{ℕ, ◌+◌, ◌^◌, ◌<◌}
 use native.Mathlib.Omega.{arith}
 use borrow.Author.Tests.{eq-eqb, lt-ltb}
 use lib.ListN.{length}
+use Rattle.std.specs.Prelude.{⊤}
 use Rattle.std.proofs.Common.{Result, Ok, Err}
 use Rattle.lists.specs.Any.{any}
 use Rattle.acpi.specs.Fadt.{ACPI_ENABLE, ACPI_DISABLE, GPE1_BASE, «FLAGS»}
@@ -41,6 +42,6 @@ module _ (t : List ℕ) (event_homes control_homes : ℕ) (power-override : Bool
   unfolding settings_fit not_two any
   set-up-fits = go (first_failing (set_up_rules t (settings_of t event_homes control_homes power-override pairs)))
     where
-      go : (a : Result (Unit {0}) SetUpRefusal) → fits_types (machine_for a (settings_of t event_homes control_homes power-override pairs)) ≡ true
+      go : (a : Result ⊤ SetUpRefusal) → fits_types (machine_for a (settings_of t event_homes control_homes power-override pairs)) ≡ true
       go (Ok _) = settings-fit
       go (Err r) = refl

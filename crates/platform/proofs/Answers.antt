@@ -4,6 +4,7 @@ use mathlib.Core.Bool.{Bool, true, false}
 use mathlib.Core.List.{List, [], ◌∷◌}
 use mathlib.Core.Path.{◌≡◌, refl}
 use lib.Dec.{eqb}
+use Rattle.std.specs.Prelude.{⊤}
 use Rattle.std.proofs.Common.{Result, Ok, Err}
 use Rattle.lists.specs.Any.{any}
 use Rattle.platform.specs.Answer.{refusal_number, if_done, Rule, first_failing}
@@ -23,10 +24,10 @@ done-passes [] e = refl
 done-passes (r ∷ rs) e = line-passes r rs (done-passes rs) e r.refused refl
 
 -- what follows on success, and on a refusal
-pub if-done : {A : Type 0} (a : Result (Unit {0}) SetUpRefusal) (done : A) (refused : SetUpRefusal → A) → a ≡ Ok tt → if_done a done refused ≡ done
+pub if-done : {A : Type 0} (a : Result ⊤ SetUpRefusal) (done : A) (refused : SetUpRefusal → A) → a ≡ Ok tt → if_done a done refused ≡ done
 if-done a done refused e = rw e refl
 
-pub if-refused : {A : Type 0} (a : Result (Unit {0}) SetUpRefusal) (done : A) (refused : SetUpRefusal → A) (r : SetUpRefusal) → a ≡ Err r
+pub if-refused : {A : Type 0} (a : Result ⊤ SetUpRefusal) (done : A) (refused : SetUpRefusal → A) (r : SetUpRefusal) → a ≡ Err r
     → if_done a done refused ≡ refused r
 if-refused a done refused r e = rw e refl
 

@@ -1,5 +1,5 @@
 -- The answers of setting up, and the first failing line of a table of rules.
-use Rattle.std.specs.Prelude.{Bool, cond, List, [], ◌∷◌, ℕ, Result, Ok, Err}
+use Rattle.std.specs.Prelude.{⊤, Bool, cond, List, [], ◌∷◌, ℕ, Result, Ok, Err}
 use Rattle.platform.specs.declared.rules.SetUpRefusal.{SetUpRefusal}
 use Rattle.platform.specs.declared.rules.SetUpRefusal.TheVariants as refusal
 
@@ -34,17 +34,17 @@ refusal_value refusal.WrongHomes = 0
 refusal_value refusal.SleepPairs = 0
 
 -- "0 is success"; a refusal has the number of its line
-abbrev pub set_up_number : Result (Unit {0}) SetUpRefusal → ℕ
+abbrev pub set_up_number : Result ⊤ SetUpRefusal → ℕ
 set_up_number (Ok _) = 0
 set_up_number (Err r) = refusal_number r
 
 -- success gives a machine, and no value beside it
-abbrev pub set_up_value : Result (Unit {0}) SetUpRefusal → ℕ
+abbrev pub set_up_value : Result ⊤ SetUpRefusal → ℕ
 set_up_value (Ok _) = 0
 set_up_value (Err r) = refusal_value r
 
 -- one thing on success, and another, by the line, on a refusal
-abbrev pub if_done : {A : Type 0} → Result (Unit {0}) SetUpRefusal → A → (SetUpRefusal → A) → A
+abbrev pub if_done : {A : Type 0} → Result ⊤ SetUpRefusal → A → (SetUpRefusal → A) → A
 if_done (Ok _) done refused = done
 if_done (Err r) done refused = refused r
 
@@ -58,6 +58,6 @@ abbrev pub ◌when◌ : SetUpRefusal → Bool → Rule
 r when test = record { line = r; refused = test }
 
 -- "The first failing line of this table is the answer"
-unfoldable pub first_failing : List Rule → Result (Unit {0}) SetUpRefusal
+unfoldable pub first_failing : List Rule → Result ⊤ SetUpRefusal
 first_failing [] = Ok tt
 first_failing (r ∷ rs) = cond r.refused (Err r.line) (first_failing rs)

@@ -5,6 +5,7 @@ use mathlib.Core.Path.{◌≡◌, refl, sym, ◌∙◌, ap}
 use Prim.Native.Nat.{ℕ, ◌+◌, ◌%◌}
 use lib.Dec.{eqb, lit<}
 use lib.ListN.{drop}
+use Rattle.std.specs.Prelude.{⊤}
 use Rattle.std.proofs.Common.{Result, Ok, Err}
 use Rattle.lists.specs.Any.{first_at}
 use Rattle.lists.proofs.Tests.{and_left, and_right}
@@ -37,7 +38,8 @@ use Rattle.split_access.proofs.Legal.{legal-after, all-legal, demand-3-from-lega
 use Rattle.saved.specs.Text.{newest, Parts, parts, text_of, records_at, parts_of, saved_text}
 use Rattle.saved.specs.Reading.{edition_up_to, edition_of, parts_in, machine_of, machine_in, well_formed, legal_text, malformed_line, text_answer, legal_answer, is_done, first_refusal, read_as, read_parts, read_in, read_of}
 use Rattle.saved.specs.declared.ReadBack.{ReadBack}
-use Rattle.saved.specs.declared.ReadAnswer.TheVariants as answer
+use Rattle.saved.specs.declared.ReadRefusal.TheVariants as refusal
+use Rattle.std.specs.Prelude.{Ok, Err}
 use Rattle.read_back.specs.Start.{FromRead}
 use Rattle.read_back.proofs.Parts.{parts-back}
 
@@ -53,7 +55,7 @@ legal-exactly p =
 done-legal : (m : Machine) (vs : List ℕ) → is_done (legal_answer m vs) ≡ (is_legal (legality_of m) && same_text (values_of m) vs)
 done-legal m vs = go (legality_of m) (same_text (values_of m) vs) (agreeing (values_of m) vs + 2)
   where
-    go : (x : Result (Unit {0}) Clause) (t : Bool) (line : ℕ) → is_done (if_legal x (cond t answer.Done (answer.Stray line)) answer.Illegal) ≡ (is_legal x && t)
+    go : (x : Result ⊤ Clause) (t : Bool) (line : ℕ) → is_done (if_legal x (cond t (Ok tt) (Err (refusal.Stray line))) (λ clause. Err (refusal.Illegal clause))) ≡ (is_legal x && t)
     go (Ok _) true line = refl
     go (Ok _) false line = refl
     go (Err c) t line = refl
@@ -67,7 +69,7 @@ module _ (edition : ℕ) (text : List ℕ) where
       p = parts_in edition text
 
       go : (t : Bool)
-          → is_done (first_refusal (cond t answer.Done (answer.Malformed (malformed_line text (text_of edition p)))) (legal_answer (machine_of p) p.values))
+          → is_done (first_refusal (cond t (Ok tt) (Err (refusal.Malformed (malformed_line text (text_of edition p))))) (legal_answer (machine_of p) p.values))
           ≡ (t && (legal (machine_of p) && same_text (values_of (machine_of p)) p.values))
       go true = rw (legal-exactly p) (done-legal (machine_of p) p.values)
       go false = refl
@@ -76,7 +78,7 @@ module _ (edition : ℕ) (text : List ℕ) where
   unfolding read_in
   done-exactly = go (eqb edition 0)
     where
-      go : (t : Bool) → is_done (cond t (read_as answer.NoEdition all_zero) (read_parts edition text (parts_in edition text))).answer
+      go : (t : Bool) → is_done (cond t (read_as (Err refusal.NoEdition) all_zero) (read_parts edition text (parts_in edition text))).answer
           ≡ (not t && (well_formed edition text && legal_text edition text))
       go true = refl
       go false = done-parts
@@ -86,8 +88,8 @@ module _ (edition : ℕ) (text : List ℕ) where
   unfolding read_in
   done-machine = go (eqb edition 0)
     where
-      go : (t : Bool) → is_done (cond t (read_as answer.NoEdition all_zero) (read_parts edition text (parts_in edition text))).answer ≡ true
-          → (cond t (read_as answer.NoEdition all_zero) (read_parts edition text (parts_in edition text))).machine ≡ machine_in edition text
+      go : (t : Bool) → is_done (cond t (read_as (Err refusal.NoEdition) all_zero) (read_parts edition text (parts_in edition text))).answer ≡ true
+          → (cond t (read_as (Err refusal.NoEdition) all_zero) (read_parts edition text (parts_in edition text))).machine ≡ machine_in edition text
       go true e = absurd (false≢true e)
       go false e = rw e refl
 
@@ -98,7 +100,7 @@ pub accepted-exactly : (text : List ℕ)
 accepted-exactly text = done-exactly (edition_of newest text) text
 
 -- an accepted text is well formed, and legal
-module _ (text : List ℕ) (e : (read_of text).answer ≡ answer.Done) where
+module _ (text : List ℕ) (e : (read_of text).answer ≡ Ok tt) where
   abbrev edition : ℕ
   edition = edition_of newest text
 
@@ -132,7 +134,7 @@ module _ (text : List ℕ) (e : (read_of text).answer ≡ answer.Done) where
 -- ---- the round trips
 
 -- an accepted text of any edition is what its machine prints in that edition: each record that the text has reads as it stands
-pub reads-as-it-stands : (text : List ℕ) → (read_of text).answer ≡ answer.Done → text_of (edition_of newest text) (parts_of (read_of text).machine) ≡ text
+pub reads-as-it-stands : (text : List ℕ) → (read_of text).answer ≡ Ok tt → text_of (edition_of newest text) (parts_of (read_of text).machine) ≡ text
 reads-as-it-stands text e =
     let k = edition_of newest text in
     let p = parts_in k text in
@@ -141,7 +143,7 @@ reads-as-it-stands text e =
     ∙ sym (accepted-text text e)
 
 -- "reading and writing back any accepted text of the newest edition gives the same text"
-pub read-then-write : (text : List ℕ) → (read_of text).answer ≡ answer.Done → edition_of newest text ≡ newest → saved_text (read_of text).machine ≡ text
+pub read-then-write : (text : List ℕ) → (read_of text).answer ≡ Ok tt → edition_of newest text ≡ newest → saved_text (read_of text).machine ≡ text
 unfolding saved_text
 read-then-write text e n = ap (λ (k : ℕ). text_of k (parts_of (read_of text).machine)) (sym n) ∙ reads-as-it-stands text e
 
@@ -158,7 +160,7 @@ legal-judged : (m : Machine) → legal m ≡ true → legality_of m ≡ Ok tt
 unfolding legal
 legal-judged m e = go (legality_of m) (sym (listed-exactly m) ∙ and_left (listed m) (fits_types m) e)
   where
-    go : (x : Result (Unit {0}) Clause) → is_legal x ≡ true → x ≡ Ok tt
+    go : (x : Result ⊤ Clause) → is_legal x ≡ true → x ≡ Ok tt
     go (Ok _) h = refl
     go (Err c) h = absurd (false≢true h)
 
@@ -168,11 +170,11 @@ written_same m = same_self (text_of newest (parts_of m))
 
 -- a text that is as it was printed, of a legal machine with its own values
 all-well : (text printed vs : List ℕ) (m n : Machine) → same_text text printed ≡ true → n ≡ m → legality_of m ≡ Ok tt → same_text (values_of m) vs ≡ true
-    → read_as (first_refusal (text_answer text printed) (legal_answer n vs)) n ≡ record { answer = answer.Done; machine = m }
+    → read_as (first_refusal (text_answer text printed) (legal_answer n vs)) n ≡ record { answer = Ok tt; machine = m }
 all-well text printed vs m n same e lawful own = rw (e, same, lawful, own) refl
 
 -- "Writing and reading back gives the same machine for every legal one"
-pub write-then-read : (m : Machine) → legal m ≡ true → read_of (saved_text m) ≡ record { answer = answer.Done; machine = m }
+pub write-then-read : (m : Machine) → legal m ≡ true → read_of (saved_text m) ≡ record { answer = Ok tt; machine = m }
 write-then-read m e =
     ap (λ (k : ℕ). read_in k (saved_text m)) (newest-named m)
     ∙ newest-read (saved_text m)
@@ -184,12 +186,12 @@ first-edition-inactive : (text : List ℕ) → (machine_in 1 text).wake_pin ≡ 
 unfolding rows
 first-edition-inactive text = ap (λ (v : ℕ). eqb (v % 2) 1) (added-reads 1 42 (drop (records_at 1) text) no_row (lit< tt) refl)
 
-pub older-reads-inactive : (text : List ℕ) → (read_of text).answer ≡ answer.Done → edition_of newest text ≡ 1 → (read_of text).machine.wake_pin ≡ false
+pub older-reads-inactive : (text : List ℕ) → (read_of text).answer ≡ Ok tt → edition_of newest text ≡ 1 → (read_of text).machine.wake_pin ≡ false
 older-reads-inactive text e n =
     ap (λ (m : Machine). m.wake_pin) (accepted-machine text e ∙ ap (λ (k : ℕ). machine_in k text) n) ∙ first-edition-inactive text
 
 -- "written again it is a text of the newest edition", and of the same machine
-pub written-again : FromRead (λ m. (edition_of newest (saved_text m) ≡ newest) × (read_of (saved_text m) ≡ record { answer = answer.Done; machine = m }))
+pub written-again : FromRead (λ m. (edition_of newest (saved_text m) ≡ newest) × (read_of (saved_text m) ≡ record { answer = Ok tt; machine = m }))
 written-again text e = (newest-named (read_of text).machine, write-then-read (read_of text).machine (accepted-legal text e))
 
 -- no two legal machines have one text

@@ -6,8 +6,7 @@ ghost use Rattle.files.specs.Counts.{IsPrefixLen};
 ghost use Rattle.session.specs.Session.{limit};
 
 use machine::Machine;
-use saved::ReadAnswer;
-use session::{LIMIT, SessionAnswer};
+use session::{LIMIT, SessionRefusal};
 use std::fs::{File, Files};
 use std::io::Read;
 
@@ -35,10 +34,8 @@ fn main(rt: HostRuntime) {
         return;
     }
     let back = saved::read(&state[..state_length]);
-    let answer = back.answer;
-    match answer {
-        ReadAnswer::Done => list(&rt, back.machine, &steps[..steps_length]),
-        _ => {}
+    if back.answer.is_ok() {
+        list(&rt, back.machine, &steps[..steps_length]);
     }
 }
 
@@ -70,12 +67,9 @@ fn list(rt: &impl Print, m: Machine, steps: &[u8]) {
     print(rt, answer, &listing);
 }
 
-fn print(rt: &impl Print, answer: SessionAnswer, listing: &[u8]) {
-    match answer {
-        SessionAnswer::Written(length) => {
-            let n = within(length, listing);
-            files::say(rt, &listing[..n]);
-        }
-        _ => {}
+fn print(rt: &impl Print, answer: Result<usize, SessionRefusal>, listing: &[u8]) {
+    if let Ok(length) = answer {
+        let n = within(length, listing);
+        files::say(rt, &listing[..n]);
     }
 }

@@ -6,8 +6,7 @@ ghost use Rattle.std.specs.Prelude.{◌≡◌, ◌+◌, length};
 ghost use Rattle.files.specs.Counts.{IsPrefixLen};
 ghost use Rattle.session.specs.Session.{limit};
 
-use saved::ReadAnswer;
-use session::{EndAnswer, Ended, LIMIT};
+use session::{Ended, LIMIT};
 use std::fs::{File, Files};
 use std::io::Read;
 
@@ -55,10 +54,8 @@ fn from_state(rt: &(impl Files + Print), steps: &[u8]) {
     let mut state = text_buffer();
     let length = files::read_full(&mut file, &mut state);
     let back = saved::read(&state[..length]);
-    let answer = back.answer;
-    match answer {
-        ReadAnswer::Done => print(rt, session::resume_end(back.machine, steps)),
-        _ => {}
+    if back.answer.is_ok() {
+        print(rt, session::resume_end(back.machine, steps));
     }
 }
 
@@ -70,14 +67,10 @@ fn within(length: usize, text: &[u8]) -> usize
 }
 
 fn print(rt: &impl Print, ended: Ended) {
-    let answer = ended.answer;
-    match answer {
-        EndAnswer::Done => {
-            let mut text = [0u8; ROOM];
-            let written = saved::write(ended.machine, &mut text);
-            let n = within(saved::written_value(written) as usize, &text);
-            files::say(rt, &text[..n]);
-        }
-        _ => {}
+    if ended.answer.is_ok() {
+        let mut text = [0u8; ROOM];
+        let written = saved::write(ended.machine, &mut text);
+        let n = within(saved::written_value(written) as usize, &text);
+        files::say(rt, &text[..n]);
     }
 }

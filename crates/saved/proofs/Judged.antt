@@ -4,6 +4,7 @@ use mathlib.Core.List.{List}
 use mathlib.Core.Path.{◌≡◌, refl, sym, ◌∙◌, ap}
 use Prim.Native.Nat.{ℕ, ◌+◌, ◌*◌}
 use lib.Dec.{eqb}
+use Rattle.std.specs.Prelude.{⊤, Result, Ok, Err}
 use native.Mathlib.Omega.{arith}
 use lib.ListN.{length, drop}
 use lib.Seq.{drop-drop}
@@ -20,27 +21,27 @@ use Rattle.records.specs.Bytes.{bytes_in}
 use Rattle.saved.specs.Text.{Parts, parts, own0, own1, text_of, records_at, gpe_at}
 use Rattle.saved.specs.Reading.{values_read, bytes_read, parts_in, machine_of, text_answer, legal_answer, is_done, first_refusal, read_as, read_parts}
 use Rattle.saved.specs.declared.ReadBack.{ReadBack}
-use Rattle.saved.specs.declared.ReadAnswer.{ReadAnswer}
-use Rattle.saved.specs.declared.ReadAnswer.TheVariants as answer
+use Rattle.saved.specs.declared.ReadRefusal.{ReadRefusal}
+use Rattle.saved.specs.declared.ReadRefusal.TheVariants as refusal
 
 -- the answer on a legal machine, by the place of the first value that is not the machine's
 pub legal-answer : (m : Machine) (vs : List ℕ) → length vs ≡ row_count → legality_of m ≡ Ok tt
-    → (stray : ℕ) → stray ≡ agreeing (values_of m) vs → (r : ReadAnswer) → r ≡ cond (eqb stray row_count) answer.Done (answer.Stray (stray + 2))
+    → (stray : ℕ) → stray ≡ agreeing (values_of m) vs → (r : Result ⊤ ReadRefusal) → r ≡ cond (eqb stray row_count) (Ok tt) (Err (refusal.Stray (stray + 2)))
     → r ≡ legal_answer m vs
 legal-answer m vs long legal stray e r f =
     f ∙ rw (e, legal, same-exactly (values_of m) vs (sym long), long) refl
 
 -- a text of an edition, whose parts are these: its answer, and the machine of its parts
-module _ (edition : ℕ) (text : List ℕ) (p : Parts) (a : ReadAnswer) (m : Machine) (r : ReadBack)
+module _ (edition : ℕ) (text : List ℕ) (p : Parts) (a : Result ⊤ ReadRefusal) (m : Machine) (r : ReadBack)
     (e : a ≡ text_answer text (text_of edition p)) (f : m ≡ machine_of p) where
-  pub accepted-parts : (b : ReadAnswer) → is_done a ≡ true → b ≡ legal_answer m p.values → r ≡ read_as b m → r ≡ read_parts edition text p
+  pub accepted-parts : (b : Result ⊤ ReadRefusal) → is_done a ≡ true → b ≡ legal_answer m p.values → r ≡ read_as b m → r ≡ read_parts edition text p
   accepted-parts b d g h = h ∙ rw (g, f, ← e, d) refl
 
   pub refused-parts : is_done a ≡ false → r ≡ read_as a m → r ≡ read_parts edition text p
   refused-parts d h =
       h
       ∙ ap (read_as a) f
-      ∙ ap (λ (x : ReadAnswer). read_as x (machine_of p)) (sym (ap (λ (t : Bool). cond t (legal_answer (machine_of p) p.values) a) d) ∙ ap (λ (x : ReadAnswer). first_refusal x (legal_answer (machine_of p) p.values)) e)
+      ∙ ap (λ (x : Result ⊤ ReadRefusal). read_as x (machine_of p)) (sym (ap (λ (t : Bool). cond t (legal_answer (machine_of p) p.values) a) d) ∙ ap (λ (x : Result ⊤ ReadRefusal). first_refusal x (legal_answer (machine_of p) p.values)) e)
 
 -- the parts that a text has, each by its place
 module _ (edition : ℕ) (text : List ℕ) (at₀ : ℕ) (vs : List ℕ) (own own' at : ℕ) (s e s' e' : List ℕ)

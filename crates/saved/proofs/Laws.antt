@@ -23,7 +23,8 @@ use Rattle.records.proofs.ReadBack.{records-length}
 use Rattle.machine.specs.declared.Machine.{Machine}
 use Rattle.values.specs.Values.{values_of}
 use Rattle.saved.specs.Text.{newest, edition_line, own_bytes, gpe_text, records_at, gpe_at, saved_text, write_answer, written_buffer}
-use Rattle.saved.specs.declared.WriteAnswer.TheVariants as answer
+use Rattle.std.specs.Prelude.{Ok, Err}
+use Rattle.saved.specs.declared.WriteRefusal.TheVariants as refusal
 use Rattle.records.proofs.ByteLaws.{bytes-length}
 
 -- a record of general event bytes
@@ -171,13 +172,13 @@ module _ (m : Machine) (own own' at n : ℕ)
   -- where it fits it is written, and where it does not nothing is
   pub write-fits : (buffer l vs : List ℕ) → n ≤ length buffer → vs ≡ values_of m
       → l ≡ sets buffer 0 (edition_line newest ++ (lf ∷ (records_text newest rows vs ++ gpe_text own own' m.gpe0_sts m.gpe0_en m.gpe1_sts m.gpe1_en)))
-      → (answer.Written n ≡ write_answer m (length buffer)) × (l ≡ written_buffer m buffer)
+      → (Ok n ≡ write_answer m (length buffer)) × (l ≡ written_buffer m buffer)
   unfolding saved_text
   write-fits buffer l vs f v e =
       let fits : leb (length (saved_text m)) (length buffer) ≡ true = rw saved-length (le-leb n (length buffer) f) in
       (rw (fits, saved-length) refl, rw fits (e ∙ simp (v, a, b)))
 
-  pub write-refused : (buffer : List ℕ) → length buffer < n → (answer.NoRoom ≡ write_answer m (length buffer)) × (buffer ≡ written_buffer m buffer)
+  pub write-refused : (buffer : List ℕ) → length buffer < n → (Err refusal.NoRoom ≡ write_answer m (length buffer)) × (buffer ≡ written_buffer m buffer)
   write-refused buffer f =
       let none : leb (length (saved_text m)) (length buffer) ≡ false = rw saved-length (lt-leb n (length buffer) f) in
       (rw none refl, rw none refl)

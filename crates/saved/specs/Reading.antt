@@ -1,5 +1,5 @@
 -- A saved text read: "A text is accepted exactly if it is well formed and legal".
-use Rattle.std.specs.Prelude.{Bool, true, false, cond, ◌&&◌, List, ℕ, zero, suc, ◌+◌, ◌*◌, eqb, length, take, drop}
+use Rattle.std.specs.Prelude.{Bool, true, false, cond, ◌&&◌, List, ℕ, zero, suc, ◌+◌, ◌*◌, eqb, length, take, drop, ⊤, Result, Ok, Err, is_ok}
 use Prim.Native.String.{String}
 use Rattle.text.specs.Parts.{lf, front, same_text, parts as parts_by}
 use Rattle.records.specs.Ascii.{ascii}
@@ -14,8 +14,8 @@ use Rattle.values.specs.Agree.{agreeing}
 use Rattle.values.specs.Values.{machine_from, values_of, values_agree}
 use Rattle.saved.specs.Text.{newest, Parts, parts, own0, own1, edition_line, text_of, records_at, gpe_at}
 use Rattle.saved.specs.declared.ReadBack.{ReadBack}
-use Rattle.saved.specs.declared.ReadAnswer.{ReadAnswer}
-use Rattle.saved.specs.declared.ReadAnswer.TheVariants as answer
+use Rattle.saved.specs.declared.ReadRefusal.{ReadRefusal}
+use Rattle.saved.specs.declared.ReadRefusal.TheVariants as refusal
 
 -- ---- the edition
 
@@ -78,30 +78,26 @@ legal_text edition text = legal (machine_in edition text) && values_agree (value
 unfoldable pub malformed_line : List ℕ → List ℕ → ℕ
 malformed_line text printed = length (parts_by lf (take (agreeing text printed) text))
 
-abbrev pub text_answer : List ℕ → List ℕ → ReadAnswer
-text_answer text printed = cond (same_text text printed) answer.Done (answer.Malformed (malformed_line text printed))
+abbrev pub text_answer : List ℕ → List ℕ → Result ⊤ ReadRefusal
+text_answer text printed = cond (same_text text printed) (Ok tt) (Err (refusal.Malformed (malformed_line text printed)))
 
 -- 42: the clause that the machine breaks, or the line of a register that is not the machine's; record 0 stands in line 2. That the machine's fields fit
 -- their types needs no test: `read_fits` (`values/proofs/Fits.antt`)
-abbrev pub legal_answer : Machine → List ℕ → ReadAnswer
+abbrev pub legal_answer : Machine → List ℕ → Result ⊤ ReadRefusal
 legal_answer m vs =
     if_legal (legality_of m)
-    (cond (same_text (values_of m) vs) answer.Done (answer.Stray (agreeing (values_of m) vs + 2)))
-    answer.Illegal
+    (cond (same_text (values_of m) vs) (Ok tt) (Err (refusal.Stray (agreeing (values_of m) vs + 2))))
+    (λ clause. Err (refusal.Illegal clause))
 
-abbrev pub is_done : ReadAnswer → Bool
-is_done answer.Done = true
-is_done answer.NoEdition = false
-is_done (answer.Malformed line) = false
-is_done (answer.Illegal clause) = false
-is_done (answer.Stray line) = false
+abbrev pub is_done : Result ⊤ ReadRefusal → Bool
+is_done a = is_ok a
 
 -- "The reader's refusal gives the machine all zero, as setting up's does."
-abbrev pub read_as : ReadAnswer → Machine → ReadBack
+abbrev pub read_as : Result ⊤ ReadRefusal → Machine → ReadBack
 read_as a m = record { answer = a; machine = cond (is_done a) m all_zero }
 
 -- "41 is judged over all the other lines before 42 over any"
-abbrev pub first_refusal : ReadAnswer → ReadAnswer → ReadAnswer
+abbrev pub first_refusal : Result ⊤ ReadRefusal → Result ⊤ ReadRefusal → Result ⊤ ReadRefusal
 first_refusal a b = cond (is_done a) b a
 
 -- a text of an edition, and its parts
@@ -110,7 +106,7 @@ read_parts edition text p = read_as (first_refusal (text_answer text (text_of ed
 
 -- "Reading tests 40 to 42 in that order"; edition 0 is none
 unfoldable pub read_in : ℕ → List ℕ → ReadBack
-read_in edition text = cond (eqb edition 0) (read_as answer.NoEdition all_zero) (read_parts edition text (parts_in edition text))
+read_in edition text = cond (eqb edition 0) (read_as (Err refusal.NoEdition) all_zero) (read_parts edition text (parts_in edition text))
 
 -- reading, with every edition known
 abbrev pub read_of : List ℕ → ReadBack

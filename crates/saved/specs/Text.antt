@@ -1,5 +1,5 @@
 -- The saved text of a machine, to the byte (docs/SAVED.md): the first line, the records, and the general event bytes.
-use Rattle.std.specs.Prelude.{cond, List, ◌∷◌, ◌++◌, [], ℕ, ◌+◌, ◌/◌, min, leb, length, take, get_or}
+use Rattle.std.specs.Prelude.{cond, List, ◌∷◌, ◌++◌, [], ℕ, ◌+◌, ◌/◌, min, leb, length, take, get_or, Result, Ok, Err}
 use Prim.Native.String.{String}
 use Rattle.std.proofs.lemmas.List.Edits.{sets}
 use Rattle.text.specs.Numbers.{digits, digit_count}
@@ -11,8 +11,8 @@ use Rattle.records.specs.Bytes.{bytes_text}
 use Rattle.machine.specs.PowerOn.{gpe_bytes}
 use Rattle.machine.specs.declared.Machine.{Machine}
 use Rattle.values.specs.Values.{values_of}
-use Rattle.saved.specs.declared.WriteAnswer.{WriteAnswer}
-use Rattle.saved.specs.declared.WriteAnswer.TheVariants as answer
+use Rattle.saved.specs.declared.WriteRefusal.{WriteRefusal}
+use Rattle.saved.specs.declared.WriteRefusal.TheVariants as refusal
 
 -- the edition that writing gives
 abbrev pub newest : ℕ
@@ -81,8 +81,8 @@ unfoldable pub saved_text : Machine → List ℕ
 saved_text m = text_of newest (parts_of m)
 
 -- "43 no room in the lent buffer, given exactly when the text is longer than it"
-abbrev pub write_answer : Machine → ℕ → WriteAnswer
-write_answer m room = cond (leb (length (saved_text m)) room) (answer.Written (length (saved_text m))) answer.NoRoom
+abbrev pub write_answer : Machine → ℕ → Result ℕ WriteRefusal
+write_answer m room = cond (leb (length (saved_text m)) room) (Ok (length (saved_text m))) (Err refusal.NoRoom)
 
 -- "A refusal .. leaves every lent buffer untouched, and no writing touches bytes past its text."
 abbrev pub written_buffer : Machine → List ℕ → List ℕ

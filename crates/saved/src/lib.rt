@@ -15,16 +15,16 @@ pub use reading::read;
 // The edition that writing gives.
 pub const NEWEST: u64 = 2;
 
-// The text is written, with its length; or it is longer than the buffer.
-#[derive(Clone, Copy)]
-pub enum WriteAnswer {
-    Written(u64),
+// Why no text is written.
+#[derive(Clone, Copy, Debug, PartialEq, Eq)]
+pub enum WriteRefusal {
+    // it is longer than the buffer
     NoRoom,
 }
 
+// Why a text is refused.
 #[derive(Clone, Copy)]
-pub enum ReadAnswer {
-    Done,
+pub enum ReadRefusal {
     NoEdition,
     // a malformed, missing or surplus line: its number
     Malformed(usize),
@@ -34,51 +34,51 @@ pub enum ReadAnswer {
     Stray(usize),
 }
 
-// A refusal gives the machine all zero.
+// A refusal gives the machine all zero, and so this is no `Result`: "any refusal to make one gives it all zero".
 #[derive(Clone, Copy)]
 pub struct ReadBack {
-    pub answer: ReadAnswer,
+    pub answer: Result<(), ReadRefusal>,
     pub machine: Machine,
 }
 
-pub fn written_number(a: WriteAnswer) -> u8
+pub fn written_number(a: Result<u64, WriteRefusal>) -> u8
     ensures { result ≡ written_number a }
 {
     match a {
-        WriteAnswer::Written(_) => 0,
-        WriteAnswer::NoRoom => 43,
+        Ok(_) => 0,
+        Err(WriteRefusal::NoRoom) => 43,
     }
 }
 
-pub fn written_value(a: WriteAnswer) -> u64
+pub fn written_value(a: Result<u64, WriteRefusal>) -> u64
     ensures { result ≡ written_value a }
 {
     match a {
-        WriteAnswer::Written(length) => length,
-        WriteAnswer::NoRoom => 0,
+        Ok(length) => length,
+        Err(WriteRefusal::NoRoom) => 0,
     }
 }
 
-pub fn read_number(a: ReadAnswer) -> u8
+pub fn read_number(a: Result<(), ReadRefusal>) -> u8
     ensures { result ≡ read_number a }
 {
     match a {
-        ReadAnswer::Done => 0,
-        ReadAnswer::NoEdition => 40,
-        ReadAnswer::Malformed(_) => 41,
-        ReadAnswer::Illegal(_) => 42,
-        ReadAnswer::Stray(_) => 42,
+        Ok(()) => 0,
+        Err(ReadRefusal::NoEdition) => 40,
+        Err(ReadRefusal::Malformed(_)) => 41,
+        Err(ReadRefusal::Illegal(_)) => 42,
+        Err(ReadRefusal::Stray(_)) => 42,
     }
 }
 
-pub fn read_value(a: ReadAnswer) -> u64
+pub fn read_value(a: Result<(), ReadRefusal>) -> u64
     ensures { result ≡ read_value a }
 {
     match a {
-        ReadAnswer::Done => 0,
-        ReadAnswer::NoEdition => 0,
-        ReadAnswer::Malformed(_) => 0,
-        ReadAnswer::Illegal(_) => 0,
-        ReadAnswer::Stray(_) => 0,
+        Ok(()) => 0,
+        Err(ReadRefusal::NoEdition) => 0,
+        Err(ReadRefusal::Malformed(_)) => 0,
+        Err(ReadRefusal::Illegal(_)) => 0,
+        Err(ReadRefusal::Stray(_)) => 0,
     }
 }

@@ -8,7 +8,7 @@ ghost use Rattle.records.specs.Rows.{rows};
 ghost use Rattle.machine.specs.PowerOn.{gpe_bytes};
 ghost use Rattle.saved.specs.Text.{edition_line, own_bytes, gpe_text, records_at, gpe_at, write_answer, written_buffer};
 
-use crate::{NEWEST, WriteAnswer};
+use crate::{NEWEST, WriteRefusal};
 use machine::{GPE_BYTES, Machine};
 use records::{RECORDS, records_length, write_bytes, write_records};
 use text::{decimal_digits, write_byte, write_decimal, write_text};
@@ -116,8 +116,8 @@ pub(crate) fn text_length(
     at + (38 + (own0 * 4 + own1 * 4))
 }
 
-// Writes the machine's text at the buffer's start, or nothing where it is longer than the buffer.
-pub fn write(m: Machine, buf: &mut [u8]) -> WriteAnswer
+// Writes the machine's text at the buffer's start and gives its length, or writes nothing where it is longer than the buffer.
+pub fn write(m: Machine, buf: &mut [u8]) -> Result<u64, WriteRefusal>
     ensures { (result ≡ write_answer m (length buf.old)) × (buf.new ≡ written_buffer m buf.old) }
 {
     let s = m.settings;
@@ -136,7 +136,7 @@ pub fn write(m: Machine, buf: &mut [u8]) -> WriteAnswer
         print(
             buf, NEWEST, values, at, own0, own1, gpe0_sts, gpe0_en, gpe1_sts, gpe1_en,
         );
-        return WriteAnswer::Written(n as u64);
+        return Ok(n as u64);
     }
-    WriteAnswer::NoRoom
+    Err(WriteRefusal::NoRoom)
 }

@@ -3,11 +3,10 @@ ghost use Rattle.std.specs.Prelude.{◌≡◌, cond, ◌+◌, ◌≤◌, eqb};
 ghost use Rattle.records.specs.Rows.{row_count};
 ghost use Rattle.values.specs.Agree.{agreeing};
 ghost use Rattle.saved.specs.Text.{newest, own0 as own0_of, own1 as own1_of, parts, text_of, gpe_at};
-ghost use Rattle.saved.specs.declared.ReadAnswer.TheVariants as answer;
-ghost use Rattle.saved.specs.Reading.{edition_up_to, malformed_line, text_answer, legal_answer, parts_in, is_done, read_as, read_parts, read_of};
+ghost use Rattle.saved.specs.Reading.{edition_up_to, malformed_line, text_answer, legal_answer, parts_in, read_as, read_parts, read_of};
 
 use crate::print::{gpe_at, own, print, records_at, text_length};
-use crate::{ReadAnswer, ReadBack};
+use crate::{ReadBack, ReadRefusal};
 use machine::{GPE_BYTES, Machine, all_zero};
 use records::{RECORDS, read_bytes, read_records};
 use text::{line_from, part_count, same};
@@ -55,35 +54,35 @@ fn malformed_line(text: &[u8], printed: &[u8]) -> usize
 }
 
 // By the place of the first value that is not the machine's. Record 0 stands in line 2.
-fn judge_values(stray: usize) -> ReadAnswer
+fn judge_values(stray: usize) -> Result<(), ReadRefusal>
     requires { stray ≤ row_count }
-    ensures { result ≡ cond (eqb stray row_count) answer.Done (answer.Stray (stray + 2)) }
+    ensures { result ≡ cond (eqb stray row_count) (Ok tt) (Err (ReadRefusal.Stray (stray + 2))) }
 {
     if stray == VALUES {
-        ReadAnswer::Done
+        Ok(())
     } else {
-        ReadAnswer::Stray(stray + 2)
+        Err(ReadRefusal::Stray(stray + 2))
     }
 }
 
 // The machine judged, and whether it has these values.
-fn judge_machine(m: Machine, values: [u64; RECORDS]) -> ReadAnswer
+fn judge_machine(m: Machine, values: [u64; RECORDS]) -> Result<(), ReadRefusal>
     ensures { result ≡ legal_answer m values }
 {
     match legality::judge(m) {
         Ok(()) => judge_values(first_stray(m, values)),
-        Err(clause) => ReadAnswer::Illegal(clause),
+        Err(clause) => Err(ReadRefusal::Illegal(clause)),
     }
 }
 
 // The text compared with what its own parts print.
-fn compare(text: &[u8], printed: &[u8]) -> ReadAnswer
+fn compare(text: &[u8], printed: &[u8]) -> Result<(), ReadRefusal>
     ensures { result ≡ text_answer text.now printed.now }
 {
     if same(text, printed) {
-        return ReadAnswer::Done;
+        return Ok(());
     }
-    ReadAnswer::Malformed(malformed_line(text, printed))
+    Err(ReadRefusal::Malformed(malformed_line(text, printed)))
 }
 
 // The parts printed, and the text compared with that.
@@ -98,7 +97,7 @@ fn judge_text(
     gpe0_en: [u8; GPE_BYTES],
     gpe1_sts: [u8; GPE_BYTES],
     gpe1_en: [u8; GPE_BYTES],
-) -> ReadAnswer
+) -> Result<(), ReadRefusal>
     requires { (at ≡ gpe_at edition) × ((own0 ≡ own0_of values) × (own1 ≡ own1_of values)) }
     ensures { result ≡ text_answer text.now (text_of edition (parts values gpe0_sts gpe0_en gpe1_sts gpe1_en)) }
 {
@@ -119,23 +118,11 @@ fn judge_text(
     compare(text, &printed[..n])
 }
 
-fn is_done(answer: ReadAnswer) -> bool
-    ensures { result ≡ is_done answer }
-{
-    match answer {
-        ReadAnswer::Done => true,
-        ReadAnswer::NoEdition => false,
-        ReadAnswer::Malformed(_) => false,
-        ReadAnswer::Illegal(_) => false,
-        ReadAnswer::Stray(_) => false,
-    }
-}
-
 // The machine where the text is accepted.
-fn read_as(answer: ReadAnswer, m: Machine) -> ReadBack
+fn read_as(answer: Result<(), ReadRefusal>, m: Machine) -> ReadBack
     ensures { result ≡ read_as answer m }
 {
-    let machine = if is_done(answer) { m } else { all_zero() };
+    let machine = if answer.is_ok() { m } else { all_zero() };
     ReadBack { answer, machine }
 }
 
@@ -179,14 +166,13 @@ fn read_parts(
     requires { (at ≡ gpe_at edition) × ((own0 ≡ own0_of values) × (own1 ≡ own1_of values)) }
     ensures { result ≡ read_parts edition text.now (parts values gpe0_sts gpe0_en gpe1_sts gpe1_en) }
 {
-    let answer = judge_text(
-        text, edition, values, at, own0, own1, gpe0_sts, gpe0_en, gpe1_sts, gpe1_en,
-    );
     let m = machine_from(values, gpe0_sts, gpe0_en, gpe1_sts, gpe1_en);
-    if is_done(answer) {
-        return read_as(judge_machine(m, values), m);
+    match judge_text(
+        text, edition, values, at, own0, own1, gpe0_sts, gpe0_en, gpe1_sts, gpe1_en,
+    ) {
+        Ok(()) => read_as(judge_machine(m, values), m),
+        Err(why) => read_as(Err(why), m),
     }
-    read_as(answer, m)
 }
 
 // Reads a machine; a refusal gives the machine all zero.
@@ -195,7 +181,7 @@ pub fn read(text: &[u8]) -> ReadBack
 {
     let edition = edition_of(line_from(text, 0));
     if edition == 0 {
-        return read_as(ReadAnswer::NoEdition, all_zero());
+        return read_as(Err(ReadRefusal::NoEdition), all_zero());
     }
     read_in(text, edition)
 }

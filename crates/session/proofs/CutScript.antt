@@ -5,10 +5,10 @@ use mathlib.Core.List.{List, [], ◌∷◌, ◌++◌}
 use mathlib.Core.Path.{◌≡◌, refl, sym, ◌∙◌, ap}
 use Prim.Native.Nat.{ℕ, suc, ◌≤◌}
 use native.Mathlib.Omega.{arith}
-use borrow.Author.Tests.{leb-true, le-leb, eqb-true}
+use borrow.Author.Tests.{leb-true, le-leb}
 use lib.Dec.{eqb}
+use Rattle.std.specs.Prelude.{⊤, Option, Some, None, Result, Ok, Err}
 use lib.ListN.{length, length-append}
-use Rattle.std.proofs.Common.{Result, Ok, Err}
 use Rattle.lists.proofs.Tests.{and_left, and_right}
 use Rattle.text.specs.Parts.{lf, cut, on_first, lines_of}
 use Rattle.text.proofs.Lines.{line-turn}
@@ -19,12 +19,12 @@ use Rattle.machine.specs.declared.Machine.{Machine}
 use Rattle.machine.specs.declared.SetUp.{SetUp}
 use Rattle.script.specs.PlatformLine.{platform_reads, homes_at, override_in, pairs_in}
 use Rattle.script.specs.StepLine.{line_of}
-use Rattle.session.specs.Session.{limit, line_end, is_step, step_reads, first_unread, ended, no_end, step_lines, unread, run_end, platform_line, after_platform_line, platform_line_reads, set_up_by, session_end, resumed_end}
-use Rattle.session.specs.declared.EndAnswer.{EndAnswer}
-use Rattle.session.specs.declared.EndAnswer.TheVariants as end
+use Rattle.session.specs.Session.{limit, line_end, is_step, step_reads, first_unread, ended, no_end, step_lines, unread, run_end, platform_line, after_platform_line, platform_line_reads, set_up_by, if_all_read, session_end, resumed_end}
+use Rattle.session.specs.declared.EndRefusal.{EndRefusal}
+use Rattle.session.specs.declared.EndRefusal.TheVariants as end
 use Rattle.session.specs.declared.Ended.{Ended}
 use Rattle.session.proofs.Cut.{ended-append, answers, answers-append}
-use Rattle.session.proofs.Laws.{next-is-end, end-reached, end-done}
+use Rattle.session.proofs.Laws.{next-is-end}
 
 -- ---- what reads in the whole reads in each part
 
@@ -39,34 +39,34 @@ module _ (size size' at at' : ℕ) (l : List ℕ) (h : size' ≤ size) (p : at' 
       rw (and_left (is_step (line_of l)) _ e) (le-leb (line_end size' at' l) limit (omega (arith, end-sooner, within)))
 
 -- all read: the first does, and those after it
-unread-none : (size k at : ℕ) (l : List ℕ) (ls : List (List ℕ)) → 1 ≤ k → first_unread size k at (l ∷ ls) ≡ 0
-    → (step_reads size at l ≡ true) × (first_unread size (suc k) (line_end size at l) ls ≡ 0)
+unread-none : (size k at : ℕ) (l : List ℕ) (ls : List (List ℕ)) → first_unread size k at (l ∷ ls) ≡ None
+    → (step_reads size at l ≡ true) × (first_unread size (suc k) (line_end size at l) ls ≡ None)
 unfolding first_unread
-unread-none size k at l ls h e = go (step_reads size at l) e
+unread-none size k at l ls e = go (step_reads size at l) e
   where
-    go : (t : Bool) → cond t (first_unread size (suc k) (line_end size at l) ls) k ≡ 0 → (t ≡ true) × (first_unread size (suc k) (line_end size at l) ls ≡ 0)
+    go : (t : Bool) → cond t (first_unread size (suc k) (line_end size at l) ls) (Some k) ≡ None → (t ≡ true) × (first_unread size (suc k) (line_end size at l) ls ≡ None)
     go true e = (refl, e)
-    go false e = absurd (omega arith)
+    go false e = (cc, cc)
 
-unread-sooner : (ls : List (List ℕ)) (size size' k k' at at' : ℕ) → size' ≤ size → at' ≤ at → 1 ≤ k → first_unread size k at ls ≡ 0 → first_unread size' k' at' ls ≡ 0
+unread-sooner : (ls : List (List ℕ)) (size size' k k' at at' : ℕ) → size' ≤ size → at' ≤ at → first_unread size k at ls ≡ None → first_unread size' k' at' ls ≡ None
 unfolding first_unread
-unread-sooner [] size size' k k' at at' h p q e = refl
-unread-sooner (l ∷ ls) size size' k k' at at' h p q e =
-    let reads = unread-none size k at l ls q e in
+unread-sooner [] size size' k k' at at' h p e = refl
+unread-sooner (l ∷ ls) size size' k k' at at' h p e =
+    let reads = unread-none size k at l ls e in
     rw (reads-sooner size size' at at' l h p reads.0)
-    (unread-sooner ls size size' (suc k) (suc k') (line_end size at l) (line_end size' at' l) h (end-sooner size size' at at' l h p) (omega arith) reads.1)
+    (unread-sooner ls size size' (suc k) (suc k') (line_end size at l) (line_end size' at' l) h (end-sooner size size' at at' l h p) reads.1)
 
-unread-first : (ls rest : List (List ℕ)) (size k at : ℕ) → 1 ≤ k → first_unread size k at (ls ++ rest) ≡ 0 → first_unread size k at ls ≡ 0
+unread-first : (ls rest : List (List ℕ)) (size k at : ℕ) → first_unread size k at (ls ++ rest) ≡ None → first_unread size k at ls ≡ None
 unfolding first_unread
-unread-first [] rest size k at q e = refl
-unread-first (l ∷ ls) rest size k at q e =
-    let reads = unread-none size k at l (ls ++ rest) q e in
-    rw reads.0 (unread-first ls rest size (suc k) (line_end size at l) (omega arith) reads.1)
+unread-first [] rest size k at e = refl
+unread-first (l ∷ ls) rest size k at e =
+    let reads = unread-none size k at l (ls ++ rest) e in
+    rw reads.0 (unread-first ls rest size (suc k) (line_end size at l) reads.1)
 
-unread-second : (ls rest : List (List ℕ)) (size size' k at : ℕ) → size' ≤ size → 1 ≤ k → first_unread size k at (ls ++ rest) ≡ 0 → first_unread size' 1 0 rest ≡ 0
-unread-second [] rest size size' k at h q e = unread-sooner rest size size' k 1 at 0 h (omega arith) q e
-unread-second (l ∷ ls) rest size size' k at h q e =
-    unread-second ls rest size size' (suc k) (line_end size at l) h (omega arith) (unread-none size k at l (ls ++ rest) q e).1
+unread-second : (ls rest : List (List ℕ)) (size size' k at : ℕ) → size' ≤ size → first_unread size k at (ls ++ rest) ≡ None → first_unread size' 1 0 rest ≡ None
+unread-second [] rest size size' k at h e = unread-sooner rest size size' k 1 at 0 h (omega arith) e
+unread-second (l ∷ ls) rest size size' k at h e =
+    unread-second ls rest size size' (suc k) (line_end size at l) h (unread-none size k at l (ls ++ rest) e).1
 
 -- ---- the lines of the whole
 
@@ -119,34 +119,33 @@ module _ (xs rest : List ℕ) where
 module _ (table script : List ℕ) where
   -- a session ends exactly so: the platform line reads, setting up is done, and every later line reads
   abbrev Reads : Type 0
-  Reads = (platform_line_reads script ≡ true) × ((set_up_by table script).answer ≡ Ok tt) × (unread script (after_platform_line script) 2 ≡ 0)
+  Reads = (platform_line_reads script ≡ true) × ((set_up_by table script).answer ≡ Ok tt) × (unread script (after_platform_line script) 2 ≡ None)
 
-  done-reads : (session_end table script).answer ≡ end.Done → Reads
+  done-reads : (session_end table script).answer ≡ Ok tt → Reads
   unfolding session_end run_end
-  done-reads e = go (platform_line_reads script) (set_up_by table script).answer (eqb (unread script (after_platform_line script) 2) 0) refl refl refl e
+  done-reads e = go (platform_line_reads script) (set_up_by table script).answer (unread script (after_platform_line script) 2) refl refl refl e
     where
       after : Machine
       after = ended (set_up_by table script).machine (later_lines script)
 
-      go : (a : Bool) (b : Result (Unit {0}) SetUpRefusal) (t : Bool) → platform_line_reads script ≡ a → (set_up_by table script).answer ≡ b → eqb (unread script (after_platform_line script) 2) 0 ≡ t
-          → (cond a (if_done b (cond t (record { answer = end.Done; machine = after }) (no_end (end.Line (unread script (after_platform_line script) 2)))) (λ line. no_end (end.SetUp line))) (no_end end.PlatformLine)).answer ≡ end.Done
+      go : (a : Bool) (b : Result ⊤ SetUpRefusal) (u : Option ℕ) → platform_line_reads script ≡ a → (set_up_by table script).answer ≡ b → unread script (after_platform_line script) 2 ≡ u
+          → (cond a (if_done b (if_all_read u (record { answer = Ok tt; machine = after }) (λ line. no_end (end.Line line))) (λ line. no_end (end.SetUp line))) (no_end end.PlatformLine)).answer ≡ Ok tt
           → Reads
-      go true (Ok _) true p q u e = (p, q, eqb-true _ _ u)
-      go true (Ok _) false p q u e = (cc, cc, cc)
+      go true (Ok _) None p q u e = (p, q, u)
+      go true (Ok _) (Some line) p q u e = (cc, cc, cc)
       go true (Err r) t p q u e = (cc, cc, cc)
       go false b t p q u e = (cc, cc, cc)
 
-  reads-done : Reads → session_end table script ≡ record { answer = end.Done; machine = ended (set_up_by table script).machine (later_lines script) }
-  reads-done w =
-      sym (end-reached (set_up_by table script).machine script (after_platform_line script) 2 0 (sym w.2) _ refl refl
-      ∙ end-done table script (set_up_by table script) w.0 refl (after_platform_line script) w.1 refl)
+  reads-done : Reads → session_end table script ≡ record { answer = Ok tt; machine = ended (set_up_by table script).machine (later_lines script) }
+  unfolding session_end run_end
+  reads-done w = rw (w.0, w.1, w.2) refl
 
 module _ (table xs rest : List ℕ) where
   same-set-up : set_up_by table (whole xs rest) ≡ set_up_by table (part xs)
   same-set-up = ap (λ (line : List ℕ). set_up_of table (homes_at line 1) (homes_at line 2) (override_in line) (pairs_in line)) (same-platform-line xs rest)
 
   module _ (w : Reads table (whole xs rest)) where
-    all_read : first_unread (length (whole xs rest)) 2 (after_platform_line (whole xs rest)) (later_lines (part xs) ++ step_lines rest 0) ≡ 0
+    all_read : first_unread (length (whole xs rest)) 2 (after_platform_line (whole xs rest)) (later_lines (part xs) ++ step_lines rest 0) ≡ None
     all_read = ap (λ (ls : List (List ℕ)). first_unread (length (whole xs rest)) 2 (after_platform_line (whole xs rest)) ls) (sym (steps-cut xs rest)) ∙ w.2
 
     part-shorter : length (part xs) ≤ length (whole xs rest)
@@ -161,14 +160,14 @@ module _ (table xs rest : List ℕ) where
         let within : after_platform_line (whole xs rest) ≤ limit = leb-true _ _ (and_right (platform_reads (platform_line (whole xs rest))) _ w.0) in (
           rw (← same-platform-line xs rest, and_left (platform_reads (platform_line (whole xs rest))) _ w.0) (le-leb (after_platform_line (part xs)) limit (omega (arith, part-sooner, within))),
           ap (λ (made : SetUp). made.answer) (sym same-set-up) ∙ w.1,
-          unread-sooner (later_lines (part xs)) (length (whole xs rest)) (length (part xs)) 2 2 (after_platform_line (whole xs rest)) (after_platform_line (part xs)) part-shorter part-sooner (omega arith)
-              (unread-first (later_lines (part xs)) (step_lines rest 0) (length (whole xs rest)) 2 (after_platform_line (whole xs rest)) (omega arith) all_read),
+          unread-sooner (later_lines (part xs)) (length (whole xs rest)) (length (part xs)) 2 2 (after_platform_line (whole xs rest)) (after_platform_line (part xs)) part-shorter part-sooner
+              (unread-first (later_lines (part xs)) (step_lines rest 0) (length (whole xs rest)) 2 (after_platform_line (whole xs rest)) all_read),
         )
 
-    rest_read : unread rest 0 1 ≡ 0
+    rest_read : unread rest 0 1 ≡ None
     rest_read =
         unread-second (later_lines (part xs)) (step_lines rest 0) (length (whole xs rest)) (length rest) 2 (after_platform_line (whole xs rest))
-        (omega (arith, length-append xs (lf ∷ rest))) (omega arith) all_read
+        (omega (arith, length-append xs (lf ∷ rest))) all_read
 
     same-machine : ended (session_end table (part xs)).machine (step_lines rest 0) ≡ (session_end table (whole xs rest)).machine
     same-machine =
@@ -179,11 +178,11 @@ module _ (table xs rest : List ℕ) where
         ∙ ap (λ (x : Ended). x.machine) (sym (reads-done table (whole xs rest) w))
 
   -- the rest, resumed from the machine at the end of the first part, ends as the whole does
-  pub session-cut : (session_end table (whole xs rest)).answer ≡ end.Done
-      → ((session_end table (part xs)).answer ≡ end.Done) × (resumed_end (session_end table (part xs)).machine rest ≡ session_end table (whole xs rest))
+  pub session-cut : (session_end table (whole xs rest)).answer ≡ Ok tt
+      → ((session_end table (part xs)).answer ≡ Ok tt) × (resumed_end (session_end table (part xs)).machine rest ≡ session_end table (whole xs rest))
+  unfolding run_end
   session-cut e =
       let w = done-reads table (whole xs rest) e in (
         ap (λ (x : Ended). x.answer) (reads-done table (part xs) (part-read w)),
-        sym (end-reached (session_end table (part xs)).machine rest 0 1 0 (sym (rest_read w)) _ refl (sym (same-machine w)))
-            ∙ ap (λ (a : EndAnswer). record { answer = a; machine = (session_end table (whole xs rest)).machine }) (sym e),
+        rw (rest_read w, same-machine w) (ap (λ (a : Result ⊤ EndRefusal). record { answer = a; machine = (session_end table (whole xs rest)).machine }) (sym e)),
       )

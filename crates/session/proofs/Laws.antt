@@ -7,11 +7,11 @@ use mathlib.Core.Logic.{◌⊎◌, inl, inr}
 use Prim.Native.Nat.{ℕ, suc, ◌+◌, ◌-◌, ◌*◌, ◌/◌, ◌≤◌, ◌<◌}
 use native.Mathlib.Nat.{zero-add, suc-mul, le_trans, lt_of_le_of_lt, le-div_iff_mul-le}
 use native.Mathlib.Omega.{arith}
-use borrow.Author.Tests.{ltb-true, ltb-false, leb-true, leb-false, le-leb, lt-leb, eq-eqb, ne_eqb}
-use lib.Dec.{eqb, ltb, leb}
+use borrow.Author.Tests.{ltb-true, ltb-false, leb-true, leb-false, le-leb, lt-leb}
+use lib.Dec.{ltb, leb}
+use Rattle.std.specs.Prelude.{⊤, Option, Some, None, Result, Ok, Err}
 use lib.ListN.{length, drop, length-append}
 use lib.Seq.{sets, length-sets, length-take-le}
-use Rattle.std.proofs.Common.{Ok, Err}
 use Rattle.lists.proofs.Tests.{and_right}
 use Rattle.text.specs.Numbers.{digit_count}
 use Rattle.text.specs.Parts.{lf, stop_at, front, lines_of, end_of, next_line}
@@ -19,8 +19,8 @@ use Rattle.text.proofs.Fewest.{digits-suffice, digits-fewest, digit-count-some}
 use Rattle.text.proofs.Cuts.{stop-within}
 use Rattle.text.proofs.Stores.{sets_then}
 use Rattle.text.proofs.Lines.{line-turn, line-end}
+use Rattle.platform.specs.Answer.{if_done}
 use Rattle.platform.specs.declared.rules.SetUpRefusal.{SetUpRefusal}
-use Rattle.platform.proofs.Answers.{if-done, if-refused}
 use Rattle.machine.specs.declared.Machine.{Machine}
 use Rattle.machine.specs.declared.SetUp.{SetUp}
 use Rattle.model.specs.Answer.{Answer, step_number}
@@ -32,10 +32,9 @@ use Rattle.listing.specs.Entry.{header, entry, entry_length, put_at}
 use Rattle.listing.proofs.Laws.{entry_length_lem}
 use Rattle.script.specs.StepLine.{line_of}
 use Rattle.session.specs.Session.{limit, line_end, is_step, step_reads, first_unread, step_in, entries, ended, listing_of, answer_for, text_for, no_end, step_lines, unread, run_answer, run_buffer, run_end, after_platform_line, platform_line_reads, set_up_by, once_set_up, answer_of, buffer_after, session_end}
-use Rattle.session.specs.declared.EndAnswer.TheVariants as end
-use Rattle.session.specs.declared.Ended.{Ended}
-use Rattle.session.specs.declared.SessionAnswer.{SessionAnswer}
-use Rattle.session.specs.declared.SessionAnswer.TheVariants as answer
+use Rattle.session.specs.declared.EndRefusal.{EndRefusal}
+use Rattle.session.specs.declared.EndRefusal.TheVariants as end
+use Rattle.session.specs.declared.SessionRefusal.TheVariants as refusal
 
 module _ (xs : List ℕ) (i : ℕ) where
   -- the line from a place on
@@ -73,11 +72,11 @@ module _ (xs : List ℕ) (i : ℕ) where
   unfolding first_unread
   unread-turn k h e = rw (line-turn xs i h, e, next-is-end) refl
 
-  pub unread-here : (k : ℕ) → i < length xs → step_reads (length xs) i line_at ≡ false → first_unread (length xs) k i (lines_of (drop i xs)) ≡ k
+  pub unread-here : (k : ℕ) → i < length xs → step_reads (length xs) i line_at ≡ false → first_unread (length xs) k i (lines_of (drop i xs)) ≡ Some k
   unfolding first_unread
   unread-here k h e = rw (line-turn xs i h, e) refl
 
-  pub unread-end : (k : ℕ) → length xs ≤ i → first_unread (length xs) k i (lines_of (drop i xs)) ≡ 0
+  pub unread-end : (k : ℕ) → length xs ≤ i → first_unread (length xs) k i (lines_of (drop i xs)) ≡ None
   unfolding first_unread
   unread-end k h = rw (line-end xs i h) refl
 
@@ -173,7 +172,7 @@ module _ (m : Machine) (ls : List (List ℕ)) (l : List ℕ) where
 
   pub listing-written : (end : ℕ) (first second : List ℕ) → 32 ≤ length l → leb (length body) (length l - 32) ≡ true
       → first ≡ sets l 0 header → end ≡ 32 + length body → second ≡ sets first 32 body
-      → (answer.Written end ≡ answer_for (length (listing_of m ls)) (length l)) × (second ≡ text_for (listing_of m ls) l)
+      → (Ok end ≡ answer_for (length (listing_of m ls)) (length l)) × (second ≡ text_for (listing_of m ls) l)
   unfolding answer_for text_for
   listing-written end first second p q e w f =
       let fit : leb (length (listing_of m ls)) (length l) ≡ true =
@@ -181,7 +180,7 @@ module _ (m : Machine) (ls : List (List ℕ)) (l : List ℕ) where
       (rw (fit, w, listing-length) refl, rw (zero-add, fit) (f ∙ ap (λ (b : List ℕ). sets b 32 body) e ∙ sym (sets_then l 0 32 header body refl)))
 
   pub no_room : (length l < 32) ⊎ (leb (length body) (length l - 32) ≡ false)
-      → (answer.NoRoom ≡ answer_for (length (listing_of m ls)) (length l)) × (l ≡ text_for (listing_of m ls) l)
+      → (Err refusal.NoRoom ≡ answer_for (length (listing_of m ls)) (length l)) × (l ≡ text_for (listing_of m ls) l)
   unfolding answer_for text_for
   no_room why =
       let short : leb (length (listing_of m ls)) (length l) ≡ false =
@@ -192,115 +191,27 @@ module _ (m : Machine) (ls : List (List ℕ)) (l : List ℕ) where
       go (inl p) = omega (arith, p, listing-length)
       go (inr q) = omega (arith, listing-length, leb-false (length body) (length l - 32) q)
 
--- ---- a run: what its test says
-
-module _ (m : Machine) (script : List ℕ) (from first found : ℕ) (u : found ≡ unread script from first) where
-  module _ (l : List ℕ) where
-    abbrev Runs : SessionAnswer → List ℕ → Type 0
-    Runs r exit = (r ≡ run_answer m script from first (length l)) × (exit ≡ run_buffer m script from first l)
-
-    -- a line does not read: nothing is written
-    pub line-unread : (found ≡ 0 → ⊥) → Runs (answer.Line found) l
-    unfolding run_answer run_buffer
-    line-unread w =
-        let no : eqb (unread script from first) 0 ≡ false = ne_eqb _ _ (λ e. w (u ∙ e)) in
-        (rw no (ap answer.Line u), rw no refl)
-
-    -- all reads: the listing, or no room
-    pub all_read : (r : SessionAnswer) (exit : List ℕ) → found ≡ 0
-        → (r ≡ answer_for (length (listing_of m (step_lines script from))) (length l)) × (exit ≡ text_for (listing_of m (step_lines script from)) l)
-        → Runs r exit
-    unfolding run_answer run_buffer
-    all_read r exit w e =
-        let none : eqb (unread script from first) 0 ≡ true = eq-eqb _ _ (sym u ∙ w) in
-        (rw none e.0, rw none e.1)
-
-  -- the same of its end
-  pub end-unread : (found ≡ 0 → ⊥) → no_end (end.Line found) ≡ run_end m script from first
-  unfolding run_end
-  end-unread w =
-      let no : eqb (unread script from first) 0 ≡ false = ne_eqb _ _ (λ e. w (u ∙ e)) in
-      rw no (ap (λ (k : ℕ). no_end (end.Line k)) u)
-
-  pub end-reached : (after : Machine) → found ≡ 0 → after ≡ ended m (step_lines script from)
-      → record { answer = end.Done; machine = after } ≡ run_end m script from first
-  unfolding run_end
-  end-reached after w e =
-      let none : eqb (unread script from first) 0 ≡ true = eq-eqb _ _ (sym u ∙ w) in
-      rw none (ap (λ (x : Machine). record { answer = end.Done; machine = x }) e)
-
 -- ---- the session: what its tests say, in their order
 
-module _ {A : Type 0} (table script : List ℕ) (done : Machine → A) (no_line : A) (refused : SetUpRefusal → A) where
-  abbrev Judged : A
-  Judged = once_set_up table script done no_line refused
+-- what is done with the machine that it begins with, or with the refusal
+module _ {A : Type 0} (table script : List ℕ) (done : Machine → A) (refused : EndRefusal → A) where
+  pub started : (m : Machine) → Ok m ≡ once_set_up table script Ok Err → done m ≡ once_set_up table script done refused
+  started m = go (platform_line_reads script) (set_up_by table script).answer
+    where
+      go : (t : Bool) (a : Result ⊤ SetUpRefusal) → Ok m ≡ cond t (if_done a (Ok (set_up_by table script).machine) (λ line. Err (end.SetUp line))) (Err end.PlatformLine)
+          → done m ≡ cond t (if_done a (done (set_up_by table script).machine) (λ line. refused (end.SetUp line))) (refused end.PlatformLine)
+      go true (Ok _) e = cc
+      go true (Err r) e = cc
+      go false a e = cc
 
-  judged-unread : platform_line_reads script ≡ false → no_line ≡ Judged
-  judged-unread p = rw p refl
-
-  module _ (made : SetUp) (p : platform_line_reads script ≡ true) (q : made ≡ set_up_by table script) where
-    same_answer : (set_up_by table script).answer ≡ made.answer
-    same_answer = ap (λ (x : SetUp). x.answer) (sym q)
-
-    judged-refused : (r : SetUpRefusal) → made.answer ≡ Err r → refused r ≡ Judged
-    judged-refused r e = rw p (sym (if-refused _ _ refused r (same_answer ∙ e)))
-
-    judged-done : made.answer ≡ Ok tt → done made.machine ≡ Judged
-    judged-done e = rw p (ap (λ (x : SetUp). done x.machine) q ∙ sym (if-done _ _ refused (same_answer ∙ e)))
-
-module _ (table script l : List ℕ) where
-  abbrev Ends : SessionAnswer → List ℕ → Type 0
-  Ends r exit = (r ≡ answer_of table script (length l)) × (exit ≡ buffer_after table script l)
-
-  -- the run on a machine, from the line after the first
-  abbrev answered : Machine → SessionAnswer
-  answered m = run_answer m script (after_platform_line script) 2 (length l)
-
-  abbrev left : Machine → List ℕ
-  left m = run_buffer m script (after_platform_line script) 2 l
-
-  -- "the platform line does not read"
-  pub platform-unread : platform_line_reads script ≡ false → Ends answer.PlatformLine l
-  unfolding answer_of buffer_after
-  platform-unread p = (judged-unread table script answered _ answer.SetUp p, judged-unread table script left _ (λ line. l) p)
-
-  module _ (made : SetUp) (p : platform_line_reads script ≡ true) (q : made ≡ set_up_by table script) where
-    -- "setting up refused, with its own number"
-    pub set-up-refused : (r : SetUpRefusal) → made.answer ≡ Err r → Ends (answer.SetUp r) l
-    unfolding answer_of buffer_after
-    set-up-refused r e = (judged-refused table script answered answer.PlatformLine answer.SetUp made p q r e, judged-refused table script left l (λ line. l) made p q r e)
-
-    -- set up: the run on its machine
-    pub set-up-done : (from : ℕ) (r : SessionAnswer) (exit : List ℕ) → made.answer ≡ Ok tt → from ≡ after_platform_line script
-        → (r ≡ run_answer made.machine script from 2 (length l)) × (exit ≡ run_buffer made.machine script from 2 l)
-        → Ends r exit
-    unfolding answer_of buffer_after
-    set-up-done from r exit e f h = (
-      h.0 ∙ ap (λ (o : ℕ). run_answer made.machine script o 2 (length l)) f ∙ judged-done table script answered answer.PlatformLine answer.SetUp made p q e,
-      h.1 ∙ ap (λ (o : ℕ). run_buffer made.machine script o 2 l) f ∙ judged-done table script left l (λ line. l) made p q e,
-    )
-
--- the same of its end
-module _ (table script : List ℕ) where
-  abbrev reached : Machine → Ended
-  reached m = run_end m script (after_platform_line script) 2
-
-  abbrev refused-by : SetUpRefusal → Ended
-  refused-by line = no_end (end.SetUp line)
-
-  pub no-end-unread : platform_line_reads script ≡ false → no_end end.PlatformLine ≡ session_end table script
-  unfolding session_end
-  no-end-unread p = judged-unread table script reached _ refused-by p
-
-  module _ (made : SetUp) (p : platform_line_reads script ≡ true) (q : made ≡ set_up_by table script) where
-    pub no-end-refused : (r : SetUpRefusal) → made.answer ≡ Err r → no_end (end.SetUp r) ≡ session_end table script
-    unfolding session_end
-    no-end-refused r e = judged-refused table script reached (no_end end.PlatformLine) refused-by made p q r e
-
-    pub end-done : (from : ℕ) → made.answer ≡ Ok tt → from ≡ after_platform_line script → run_end made.machine script from 2 ≡ session_end table script
-    unfolding session_end
-    end-done from e f =
-        ap (λ (o : ℕ). run_end made.machine script o 2) f ∙ judged-done table script reached (no_end end.PlatformLine) refused-by made p q e
+  pub not-started : (why : EndRefusal) → Err why ≡ once_set_up table script Ok Err → refused why ≡ once_set_up table script done refused
+  not-started why = go (platform_line_reads script) (set_up_by table script).answer
+    where
+      go : (t : Bool) (a : Result ⊤ SetUpRefusal) → Err why ≡ cond t (if_done a (Ok (set_up_by table script).machine) (λ line. Err (end.SetUp line))) (Err end.PlatformLine)
+          → refused why ≡ cond t (if_done a (done (set_up_by table script).machine) (λ line. refused (end.SetUp line))) (refused end.PlatformLine)
+      go true (Ok _) e = cc
+      go true (Err r) e = cc
+      go false a e = cc
 
 -- ---- room for any answers
 

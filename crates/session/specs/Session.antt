@@ -1,8 +1,7 @@
 -- "A session, whole": from a table's bytes and a script's to the listing, or to the machine at the end; and one resumed, from a machine.
-use Rattle.std.specs.Prelude.{Bool, true, false, cond, ◌&&◌, List, [], ◌∷◌, ◌++◌, Option, Some, None, ℕ, suc, ◌+◌, min, eqb, leb, length, drop}
+use Rattle.std.specs.Prelude.{Bool, true, false, cond, ◌&&◌, List, [], ◌∷◌, ◌++◌, ℕ, suc, ◌+◌, min, leb, length, drop, Option, Some, None, Result, Ok, Err}
 use Rattle.text.specs.Parts.{lf, front, lines_of, next_line}
 use Rattle.platform.specs.Answer.{if_done}
-use Rattle.platform.specs.declared.rules.SetUpRefusal.{SetUpRefusal}
 use Rattle.machine.specs.PowerOn.{all_zero}
 use Rattle.machine.specs.SetUp.{set_up_of}
 use Rattle.machine.specs.declared.Machine.{Machine}
@@ -13,11 +12,11 @@ use Rattle.model.specs.declared.Step.TheVariants as step
 use Rattle.script.specs.PlatformLine.{platform_reads, homes_at, override_in, pairs_in}
 use Rattle.script.specs.StepLine.{line_of}
 use Rattle.listing.specs.Entry.{header, entry, put_at}
-use Rattle.session.specs.declared.EndAnswer.{EndAnswer}
-use Rattle.session.specs.declared.EndAnswer.TheVariants as end
+use Rattle.session.specs.declared.EndRefusal.{EndRefusal}
+use Rattle.session.specs.declared.EndRefusal.TheVariants as end
 use Rattle.session.specs.declared.Ended.{Ended}
-use Rattle.session.specs.declared.SessionAnswer.{SessionAnswer}
-use Rattle.session.specs.declared.SessionAnswer.TheVariants as answer
+use Rattle.session.specs.declared.SessionRefusal.{SessionRefusal}
+use Rattle.session.specs.declared.SessionRefusal.TheVariants as refusal
 
 -- ---- the lines
 
@@ -37,10 +36,10 @@ is_step None = false
 unfoldable pub step_reads : ℕ → ℕ → List ℕ → Bool
 step_reads size at l = is_step (line_of l) && leb (line_end size at l) limit
 
--- the first line that does not read, by its number from k on; 0 where all read
-unfoldable pub first_unread : ℕ → ℕ → ℕ → List (List ℕ) → ℕ
-first_unread size k at [] = 0
-first_unread size k at (l ∷ ls) = cond (step_reads size at l) (first_unread size (suc k) (line_end size at l) ls) k
+-- the first line that does not read, by its number from k on
+unfoldable pub first_unread : ℕ → ℕ → ℕ → List (List ℕ) → Option ℕ
+first_unread size k at [] = None
+first_unread size k at (l ∷ ls) = cond (step_reads size at l) (first_unread size (suc k) (line_end size at l) ls) (Some k)
 
 -- ---- the listing
 
@@ -66,15 +65,15 @@ abbrev pub listing_of : Machine → List (List ℕ) → List ℕ
 listing_of m ls = header ++ entries 1 m ls
 
 -- the answer and the buffer by room: a text of this length in a buffer of this one
-unfoldable pub answer_for : ℕ → ℕ → SessionAnswer
-answer_for long room = cond (leb long room) (answer.Written long) answer.NoRoom
+unfoldable pub answer_for : ℕ → ℕ → Result ℕ SessionRefusal
+answer_for long room = cond (leb long room) (Ok long) (Err refusal.NoRoom)
 
 unfoldable pub text_for : List ℕ → List ℕ → List ℕ
 text_for text buffer = put_at buffer 0 text
 
 -- an end that is refused: the machine all zero
-abbrev pub no_end : EndAnswer → Ended
-no_end why = record { answer = why; machine = all_zero }
+abbrev pub no_end : EndRefusal → Ended
+no_end why = record { answer = Err why; machine = all_zero }
 
 -- ---- a run: the lines of a script from a place on are its steps, and the first of them has a number
 
@@ -82,31 +81,36 @@ no_end why = record { answer = why; machine = all_zero }
 abbrev pub step_lines : List ℕ → ℕ → List (List ℕ)
 step_lines script from = lines_of (drop from script)
 
--- the first of them that does not read, by its number; 0 where all read
-abbrev pub unread : List ℕ → ℕ → ℕ → ℕ
+-- the first of them that does not read, by its number
+abbrev pub unread : List ℕ → ℕ → ℕ → Option ℕ
 unread script from first = first_unread (length script) first from (step_lines script from)
+
+-- one thing where all lines read, and another, by the first that does not
+abbrev pub if_all_read : {A : Type 0} → Option ℕ → A → (ℕ → A) → A
+if_all_read None read unread = read
+if_all_read (Some line) read unread = unread line
 
 module _ (m : Machine) (script : List ℕ) (from first : ℕ) where
   -- the first line that does not read, then room
-  unfoldable pub run_answer : ℕ → SessionAnswer
+  unfoldable pub run_answer : ℕ → Result ℕ SessionRefusal
   run_answer room =
-      cond (eqb (unread script from first) 0)
+      if_all_read (unread script from first)
       (answer_for (length (listing_of m (step_lines script from))) room)
-      (answer.Line (unread script from first))
+      (λ line. Err (refusal.NoEnd (end.Line line)))
 
   -- the lent buffer after it: "nothing is printed" unless all reads and fits, and no byte past the listing is touched
   unfoldable pub run_buffer : List ℕ → List ℕ
   run_buffer buffer =
-      cond (eqb (unread script from first) 0)
+      if_all_read (unread script from first)
       (text_for (listing_of m (step_lines script from)) buffer)
-      buffer
+      (λ line. buffer)
 
   -- the machine at its end, or the first line that does not read
   unfoldable pub run_end : Ended
   run_end =
-      cond (eqb (unread script from first) 0)
-      (record { answer = end.Done; machine = ended m (step_lines script from) })
-      (no_end (end.Line (unread script from first)))
+      if_all_read (unread script from first)
+      (record { answer = Ok tt; machine = ended m (step_lines script from) })
+      (λ line. no_end (end.Line line))
 
 -- ---- the session
 
@@ -127,28 +131,28 @@ module _ (table script : List ℕ) where
   set_up_by = set_up_of table (homes_at (platform_line script) 1) (homes_at (platform_line script) 2) (override_in (platform_line script)) (pairs_in (platform_line script))
 
   -- judged in this order: the platform line, setting up; then what is done with the machine
-  abbrev pub once_set_up : {A : Type 0} → (Machine → A) → A → (SetUpRefusal → A) → A
-  once_set_up done no_line refused =
+  abbrev pub once_set_up : {A : Type 0} → (Machine → A) → (EndRefusal → A) → A
+  once_set_up done refused =
       cond (platform_line_reads script)
-      (if_done set_up_by.answer (done set_up_by.machine) refused)
-      no_line
+      (if_done set_up_by.answer (done set_up_by.machine) (λ line. refused (end.SetUp line)))
+      (refused end.PlatformLine)
 
   -- the later lines, the first of which is line 2, then room
-  unfoldable pub answer_of : ℕ → SessionAnswer
-  answer_of room = once_set_up (λ m. run_answer m script (after_platform_line script) 2 room) answer.PlatformLine answer.SetUp
+  unfoldable pub answer_of : ℕ → Result ℕ SessionRefusal
+  answer_of room = once_set_up (λ m. run_answer m script (after_platform_line script) 2 room) (λ why. Err (refusal.NoEnd why))
 
   -- the lent buffer: "If setting up is refused .., nothing is printed"
   unfoldable pub buffer_after : List ℕ → List ℕ
-  buffer_after buffer = once_set_up (λ m. run_buffer m script (after_platform_line script) 2 buffer) buffer (λ line. buffer)
+  buffer_after buffer = once_set_up (λ m. run_buffer m script (after_platform_line script) 2 buffer) (λ why. buffer)
 
   -- "the machine at its end"
   unfoldable pub session_end : Ended
-  session_end = once_set_up (λ m. run_end m script (after_platform_line script) 2) (no_end end.PlatformLine) (λ line. no_end (end.SetUp line))
+  session_end = once_set_up (λ m. run_end m script (after_platform_line script) 2) no_end
 
 -- ---- the session resumed: "a script of steps without a platform line", "its first line being 1"
 
 module _ (m : Machine) (script : List ℕ) where
-  abbrev pub resumed_answer : ℕ → SessionAnswer
+  abbrev pub resumed_answer : ℕ → Result ℕ SessionRefusal
   resumed_answer = run_answer m script 0 1
 
   abbrev pub resumed_buffer : List ℕ → List ℕ

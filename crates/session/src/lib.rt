@@ -6,7 +6,8 @@ ghost use Rattle.std.proofs.lemmas.List.Edits.{sets};
 ghost use Rattle.text.specs.Numbers.{digit_count};
 ghost use Rattle.text.specs.Parts.{lf, front, lines_of};
 ghost use Rattle.session.specs.Answer.{session_number, session_value, end_number, end_value};
-ghost use Rattle.session.specs.Session.{step_reads, step_in, entries, ended, listing_of, answer_for, text_for, no_end, unread, run_answer, run_buffer, run_end, platform_line_reads, set_up_by, answer_of, buffer_after, session_end, resumed_answer, resumed_buffer, resumed_end};
+ghost use Rattle.session.specs.declared.SessionRefusal.TheVariants as refusal;
+ghost use Rattle.session.specs.Session.{step_reads, step_in, entries, ended, listing_of, answer_for, text_for, no_end, unread, run_answer, run_buffer, run_end, platform_line_reads, set_up_by, once_set_up, answer_of, buffer_after, session_end, resumed_answer, resumed_buffer, resumed_end};
 ghost use Rattle.model.specs.Step.{step_of};
 ghost use Rattle.script.specs.StepLine.{line_of};
 
@@ -17,23 +18,9 @@ use platform::SetUpRefusal;
 use script::{host, line_of, platform_reads};
 use text::{decimal_digits, line_count, line_from, next_line};
 
+// Why a session has no end.
 #[derive(Clone, Copy)]
-pub enum SessionAnswer {
-    // the listing's length
-    Written(usize),
-    // the platform line does not read
-    PlatformLine,
-    // setting up is refused, by this line of its table
-    SetUp(SetUpRefusal),
-    // a later line does not read: its number
-    Line(usize),
-    NoRoom,
-}
-
-#[derive(Clone, Copy)]
-pub enum EndAnswer {
-    // all steps are done
-    Done,
+pub enum EndRefusal {
     // the platform line does not read
     PlatformLine,
     // setting up is refused, by this line of its table
@@ -42,10 +29,26 @@ pub enum EndAnswer {
     Line(usize),
 }
 
-// The machine at the end; all zero where there is none.
+// Why a session has no listing.
+#[derive(Clone, Copy)]
+pub enum SessionRefusal {
+    // nor an end
+    NoEnd(EndRefusal),
+    NoRoom,
+}
+
+impl From<EndRefusal> for SessionRefusal {
+    ghost from_gives = { λ why r. r ≡ refusal.NoEnd why };
+
+    fn from(why: EndRefusal) -> SessionRefusal {
+        SessionRefusal::NoEnd(why)
+    }
+}
+
+// The machine at the end; all zero where there is none, and so no `Result`: "any refusal to make one gives it all zero".
 #[derive(Clone, Copy)]
 pub struct Ended {
-    pub answer: EndAnswer,
+    pub answer: Result<(), EndRefusal>,
     pub machine: Machine,
 }
 
@@ -64,8 +67,8 @@ fn step_reads(source: &[u8], start: usize) -> bool
     }
 }
 
-// The first line from a place on that does not read, by its number, where the line at that place has the number `first`; 0 where all read.
-fn first_unread(source: &[u8], from: usize, first: usize) -> usize
+// The first line from a place on that does not read, by its number, where the line at that place has the number `first`.
+fn first_unread(source: &[u8], from: usize, first: usize) -> Option<usize>
     requires { first ≤ 2 }
     ensures { result ≡ unread source.now from first }
 {
@@ -76,10 +79,10 @@ fn first_unread(source: &[u8], from: usize, first: usize) -> usize
             start = next_line(source, start);
             k += 1;
         } else {
-            return k;
+            return Some(k);
         }
     }
-    0
+    None
 }
 
 fn step_in(line: Option<Step>) -> Step
@@ -171,7 +174,12 @@ fn write_entries(buf: &mut [u8], at: usize, m: Machine, source: &[u8], from: usi
 }
 
 // The header and the lines of the steps from a place on, where all of it fits.
-fn write_listing(buf: &mut [u8], m: Machine, source: &[u8], from: usize) -> SessionAnswer
+fn write_listing(
+    buf: &mut [u8],
+    m: Machine,
+    source: &[u8],
+    from: usize,
+) -> Result<usize, SessionRefusal>
     ensures { (result ≡ answer_for (length (listing_of m (lines_of (drop from source.now)))) (length buf.old)) × (buf.new ≡ text_for (listing_of m (lines_of (drop from source.now))) buf.old) }
 {
     let room = buf.len();
@@ -179,11 +187,10 @@ fn write_listing(buf: &mut [u8], m: Machine, source: &[u8], from: usize) -> Sess
         if entries_fit(m, source, from, room - HEADER_LENGTH) {
             write_header(buf);
             let end = write_entries(buf, HEADER_LENGTH, m, source, from);
-            return SessionAnswer::Written(end);
+            return Ok(end);
         }
-        return SessionAnswer::NoRoom;
     }
-    SessionAnswer::NoRoom
+    Err(SessionRefusal::NoRoom)
 }
 
 // The machine after the steps from a place on.
@@ -200,12 +207,12 @@ fn machine_after(m: Machine, source: &[u8], from: usize) -> Machine
     current
 }
 
-fn no_end(why: EndAnswer) -> Ended
+fn no_end(why: EndRefusal) -> Ended
     ensures { result ≡ no_end why }
 {
     let machine = all_zero();
     Ended {
-        answer: why,
+        answer: Err(why),
         machine,
     }
 }
@@ -224,16 +231,36 @@ fn set_up_by(table: &[u8], source: &[u8]) -> SetUp
     machine::set_up(table, host(line_from(source, 0)))
 }
 
+// The machine that a session begins with.
+fn start(table: &[u8], source: &[u8]) -> Result<Machine, EndRefusal>
+    ensures { result ≡ once_set_up table.now source.now Ok Err }
+{
+    if !platform_line_reads(source) {
+        return Err(EndRefusal::PlatformLine);
+    }
+    let made = set_up_by(table, source);
+    let answer = made.answer;
+    match answer {
+        Ok(()) => Ok(made.machine),
+        Err(line) => Err(EndRefusal::SetUp(line)),
+    }
+}
+
 // Lists the steps from a place on, on a machine, where every line from there reads.
-fn run(buf: &mut [u8], m: Machine, source: &[u8], from: usize, first: usize) -> SessionAnswer
+fn run(
+    buf: &mut [u8],
+    m: Machine,
+    source: &[u8],
+    from: usize,
+    first: usize,
+) -> Result<usize, SessionRefusal>
     requires { first ≤ 2 }
     ensures { (result ≡ run_answer m source.now from first (length buf.old)) × (buf.new ≡ run_buffer m source.now from first buf.old) }
 {
-    let unread = first_unread(source, from, first);
-    if unread == 0 {
-        return write_listing(buf, m, source, from);
+    match first_unread(source, from, first) {
+        None => write_listing(buf, m, source, from),
+        Some(line) => Err(SessionRefusal::NoEnd(EndRefusal::Line(line))),
     }
-    SessionAnswer::Line(unread)
 }
 
 // The machine at the end of the same.
@@ -241,49 +268,35 @@ fn run_end(m: Machine, source: &[u8], from: usize, first: usize) -> Ended
     requires { first ≤ 2 }
     ensures { result ≡ run_end m source.now from first }
 {
-    let line = first_unread(source, from, first);
-    if line == 0 {
-        let machine = machine_after(m, source, from);
-        return Ended {
-            answer: EndAnswer::Done,
-            machine,
-        };
+    match first_unread(source, from, first) {
+        None => Ended {
+            answer: Ok(()),
+            machine: machine_after(m, source, from),
+        },
+        Some(line) => no_end(EndRefusal::Line(line)),
     }
-    no_end(EndAnswer::Line(line))
 }
 
-// Runs a script on the machine of a table and writes the listing; the lent buffer is touched only where all of it reads and fits.
-pub fn session(table: &[u8], source: &[u8], buf: &mut [u8]) -> SessionAnswer
+// Runs a script on the machine of a table and writes the listing, and gives its length; the lent buffer is touched only where all of it reads and fits.
+pub fn session(table: &[u8], source: &[u8], buf: &mut [u8]) -> Result<usize, SessionRefusal>
     ensures { (result ≡ answer_of table.now source.now (length buf.old)) × (buf.new ≡ buffer_after table.now source.now buf.old) }
 {
-    if platform_line_reads(source) {
-        let made = set_up_by(table, source);
-        let answer = made.answer;
-        return match answer {
-            Ok(()) => run(buf, made.machine, source, next_line(source, 0), 2),
-            Err(line) => SessionAnswer::SetUp(line),
-        };
-    }
-    SessionAnswer::PlatformLine
+    let m = start(table, source)?;
+    run(buf, m, source, next_line(source, 0), 2)
 }
 
 // The machine at the end of a session.
 pub fn end(table: &[u8], source: &[u8]) -> Ended
     ensures { result ≡ session_end table.now source.now }
 {
-    if platform_line_reads(source) {
-        let made = set_up_by(table, source);
-        let answer = made.answer;
-        return match answer {
-            Ok(()) => run_end(made.machine, source, next_line(source, 0), 2),
-            Err(line) => no_end(EndAnswer::SetUp(line)),
-        };
+    match start(table, source) {
+        Ok(m) => run_end(m, source, next_line(source, 0), 2),
+        Err(why) => no_end(why),
     }
-    no_end(EndAnswer::PlatformLine)
 }
 
 // Goes on from a machine: all lines are steps, and the first is line 1. Writes the listing, its steps counted from 1; the lent buffer is touched only where all of it reads and fits.
-pub fn resume(m: Machine, source: &[u8], buf: &mut [u8]) -> SessionAnswer
+pub fn resume(m: Machine, source: &[u8], buf: &mut [u8]) -> Result<usize, SessionRefusal>
     ensures { (result ≡ resumed_answer m source.now (length buf.old)) × (buf.new ≡ resumed_buffer m source.now buf.old) }
 {
     run(buf, m, source, 0, 1)
@@ -297,49 +310,45 @@ pub fn resume_end(m: Machine, source: &[u8]) -> Ended
 }
 
 // The number of an answer, and its value.
-pub fn number(a: SessionAnswer) -> u8
+pub fn number(a: Result<usize, SessionRefusal>) -> u8
     ensures { result ≡ session_number a }
 {
     match a {
-        SessionAnswer::Written(_) => 0,
-        SessionAnswer::PlatformLine => 46,
-        SessionAnswer::SetUp(line) => platform::refusal_number(line),
-        SessionAnswer::Line(_) => 46,
-        SessionAnswer::NoRoom => 43,
+        Ok(_) => 0,
+        Err(SessionRefusal::NoEnd(why)) => end_number(Err(why)),
+        Err(SessionRefusal::NoRoom) => 43,
     }
 }
 
-pub fn value(a: SessionAnswer) -> usize
+pub fn value(a: Result<usize, SessionRefusal>) -> usize
     ensures { result ≡ session_value a }
 {
     match a {
-        SessionAnswer::Written(length) => length,
-        SessionAnswer::PlatformLine => 1,
-        SessionAnswer::SetUp(line) => platform::refusal_value(line) as usize,
-        SessionAnswer::Line(line) => line,
-        SessionAnswer::NoRoom => 0,
+        Ok(length) => length,
+        Err(SessionRefusal::NoEnd(why)) => end_value(Err(why)),
+        Err(SessionRefusal::NoRoom) => 0,
     }
 }
 
 // The number of an end's answer, and its value.
-pub fn end_number(a: EndAnswer) -> u8
+pub fn end_number(a: Result<(), EndRefusal>) -> u8
     ensures { result ≡ end_number a }
 {
     match a {
-        EndAnswer::Done => 0,
-        EndAnswer::PlatformLine => 46,
-        EndAnswer::SetUp(line) => platform::refusal_number(line),
-        EndAnswer::Line(_) => 46,
+        Ok(()) => 0,
+        Err(EndRefusal::PlatformLine) => 46,
+        Err(EndRefusal::SetUp(line)) => platform::refusal_number(line),
+        Err(EndRefusal::Line(_)) => 46,
     }
 }
 
-pub fn end_value(a: EndAnswer) -> usize
+pub fn end_value(a: Result<(), EndRefusal>) -> usize
     ensures { result ≡ end_value a }
 {
     match a {
-        EndAnswer::Done => 0,
-        EndAnswer::PlatformLine => 1,
-        EndAnswer::SetUp(line) => platform::refusal_value(line) as usize,
-        EndAnswer::Line(line) => line,
+        Ok(()) => 0,
+        Err(EndRefusal::PlatformLine) => 1,
+        Err(EndRefusal::SetUp(line)) => platform::refusal_value(line) as usize,
+        Err(EndRefusal::Line(line)) => line,
     }
 }

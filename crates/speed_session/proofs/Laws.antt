@@ -1,4 +1,5 @@
 -- Laws for the loop over sessions: one turn, and the end; and a session keeps the buffer's length. Assumes nothing.
+use Rattle.std.specs.Prelude.{⊤}
 use Rattle.std.proofs.Common.{◌≡◌, ℕ, zero, suc, Bool, true, false, cond, eqb, List, length, refl, Result, Ok, Err}
 use Rattle.platform.specs.Answer.{if_done}
 use Rattle.platform.specs.declared.rules.SetUpRefusal.{SetUpRefusal}
@@ -33,7 +34,7 @@ module _ (table script : List ℕ) where
       text : List ℕ
       text = listing_of (set_up_by table script).machine (step_lines script (after_platform_line script))
 
-      go : (a : Bool) (b : Result (Unit {0}) SetUpRefusal) (c : Bool) → length (cond a (if_done b (cond c (put_at buffer 0 text) buffer) (λ line. buffer)) buffer) ≡ length buffer
+      go : (a : Bool) (b : Result ⊤ SetUpRefusal) (c : Bool) → length (cond a (if_done b (cond c (put_at buffer 0 text) buffer) (λ line. buffer)) buffer) ≡ length buffer
       go true (Ok _) true = put-length buffer 0 text
       go true (Ok _) false = refl
       go true (Err r) c = refl

@@ -15,7 +15,7 @@ mod words;
 ghost use Rattle.std.specs.Prelude.{◌≡◌, ◌+◌, length};
 ghost use Rattle.session.specs.Session.{limit};
 
-use session::{LIMIT, SessionAnswer};
+use session::{EndRefusal, LIMIT, SessionRefusal};
 use std::fs::{File, Files};
 use std::io::Read;
 
@@ -74,18 +74,19 @@ fn at_end(input: &mut impl Read, length: usize) -> bool {
     files::is_at_end(input)
 }
 
-fn tell(out: &impl Print, answer: SessionAnswer, table: &[u8], source: &[u8]) {
+fn tell(out: &impl Print, answer: Result<usize, SessionRefusal>, table: &[u8], source: &[u8]) {
     match answer {
-        SessionAnswer::Written(_) => all_is_well(out, source),
-        SessionAnswer::NoRoom => all_is_well(out, source),
-        SessionAnswer::PlatformLine => line::platform_unread(out, source),
-        SessionAnswer::SetUp(refusal) => {
+        Ok(_) | Err(SessionRefusal::NoRoom) => all_is_well(out, source),
+        Err(SessionRefusal::NoEnd(EndRefusal::PlatformLine)) => line::platform_unread(out, source),
+        Err(SessionRefusal::NoEnd(EndRefusal::SetUp(refusal))) => {
             say::say(out, b"setting up is refused: ");
             say::count(out, platform::refusal_number(refusal) as u64);
             say::say(out, b", ");
             table::closer(out, refusal, table, text::line_from(source, 0));
         }
-        SessionAnswer::Line(line) => line::step_unread(out, source, line, true),
+        Err(SessionRefusal::NoEnd(EndRefusal::Line(line))) => {
+            line::step_unread(out, source, line, true)
+        }
     }
 }
 

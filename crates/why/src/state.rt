@@ -3,8 +3,8 @@ use crate::clauses::clause;
 use crate::line::step_unread;
 use crate::say::{count, say};
 use machine::Machine;
-use saved::ReadAnswer;
-use session::EndAnswer;
+use saved::ReadRefusal;
+use session::EndRefusal;
 
 const LF: u8 = 10;
 
@@ -13,24 +13,22 @@ const ROOM: usize = 1024;
 
 pub(crate) fn tell(out: &impl Print, text: &[u8], steps: &[u8]) {
     let back = saved::read(text);
-    let answer = back.answer;
-    match answer {
-        ReadAnswer::Done => tell_steps(out, back.machine, text, steps),
-        ReadAnswer::NoEdition => say(out, b"40: the first line names no known edition\n"),
-        ReadAnswer::Malformed(line) => malformed(out, text, line),
-        ReadAnswer::Illegal(broken) => {
+    match back.answer {
+        Ok(()) => tell_steps(out, back.machine, text, steps),
+        Err(ReadRefusal::NoEdition) => say(out, b"40: the first line names no known edition\n"),
+        Err(ReadRefusal::Malformed(line)) => malformed(out, text, line),
+        Err(ReadRefusal::Illegal(broken)) => {
             say(out, b"42: ");
             clause(out, broken);
         }
-        ReadAnswer::Stray(line) => stray(out, text, line),
+        Err(ReadRefusal::Stray(line)) => stray(out, text, line),
     }
 }
 
 fn tell_steps(out: &impl Print, m: Machine, text: &[u8], steps: &[u8]) {
     let ended = session::resume_end(m, steps);
-    let answer = ended.answer;
-    match answer {
-        EndAnswer::Line(line) => step_unread(out, steps, line, false),
+    match ended.answer {
+        Err(EndRefusal::Line(line)) => step_unread(out, steps, line, false),
         _ => all_is_well(out, text, m.state),
     }
 }
@@ -64,7 +62,7 @@ fn stray(out: &impl Print, text: &[u8], line: usize) {
 // Any text of the newest edition says which record a line is to be.
 fn malformed(out: &impl Print, text: &[u8], line: usize) {
     let mut newest = [0u8; ROOM];
-    saved::write(machine::all_zero(), &mut newest);
+    let _ = saved::write(machine::all_zero(), &mut newest);
     say(out, b"41: line ");
     count(out, line as u64);
     against(out, text, &newest, line);

@@ -1,19 +1,17 @@
-use mathlib.Core.Path.{sym, ◌∙◌}
-use Rattle.session.proofs.Laws.{no-end-unread, no-end-refused, end-done}
+use Rattle.session.specs.Session.{no_end, after_platform_line, run_end, session_end}
+use Rattle.session.proofs.Laws.{started, not-started}
 use Rattle.session.proofs.end.Goals as goal
 
 pub returns-in-Ok : goal.returns-in-Ok
+unfolding session_end
 returns-in-Ok c =
-    c.run_end.ensures
-    ∙ end-done c.args.table.now c.args.source.now _ (sym c.platform_line_reads.ensures ∙ c.if-platform_line_reads.true)
-    c.set_up_by-made.ensures _ c.in-Ok.is c.next_line.ensures
+    let script : _ = c.args.source.now in
+    rw (c.run_end.ensures, c.next_line.ensures)
+    (started c.args.table.now script (λ m. run_end m script (after_platform_line script) 2) no_end c.in-Ok.m c.in-Ok.ensures)
 
 pub returns-in-Err : goal.returns-in-Err
+unfolding session_end
 returns-in-Err c =
-    c.no_end.ensures
-    ∙ no-end-refused c.args.table.now c.args.source.now _ (sym c.platform_line_reads.ensures ∙ c.if-platform_line_reads.true)
-    c.set_up_by-made.ensures _ c.in-Err.is
-
-pub returns : goal.returns
-returns c =
-    c.no_end-2.ensures ∙ no-end-unread c.args.table.now c.args.source.now (sym c.platform_line_reads.ensures ∙ c.if-platform_line_reads.false)
+    let script : _ = c.args.source.now in
+    rw c.no_end.ensures
+    (not-started c.args.table.now script (λ m. run_end m script (after_platform_line script) 2) no_end c.in-Err.why c.in-Err.ensures)

@@ -1,10 +1,11 @@
-use Rattle.session.proofs.Laws.{line-unread, all_read}
+use Rattle.session.specs.Session.{run_answer, run_buffer}
+use mathlib.Core.Path.{refl}
 use Rattle.session.proofs.run.Goals as goal
 
-pub returns-then-unread-eq0 : goal.returns-then-unread-eq0
-returns-then-unread-eq0 c =
-    all_read c.args.m c.args.source.now c.args.from c.args.first _ c.first_unread-unread.ensures c.args.buf.now _ _ c.if-unread-eq0.true c.write_listing.ensures
+pub returns-in-None : goal.returns-in-None
+unfolding run_answer run_buffer
+returns-in-None c = rw (← c.in-None.ensures) c.write_listing.ensures
 
-pub returns : goal.returns
-returns c =
-    line-unread c.args.m c.args.source.now c.args.from c.args.first _ c.first_unread-unread.ensures c.args.buf.now c.if-unread-eq0.false
+pub returns-in-Some : goal.returns-in-Some
+unfolding run_answer run_buffer
+returns-in-Some c = rw (← c.in-Some.ensures) (refl, refl)

@@ -11,8 +11,8 @@ returns-then-entries_fit c =
     (sym c.entries_fit.ensures ∙ c.if-entries_fit.true) c.write_header.ensures
     c.write_entries-end.ensures.0 c.write_entries-end.ensures.1
 
-pub returns-then-room-ge-HEADER_LENGTH : goal.returns-then-room-ge-HEADER_LENGTH
-returns-then-room-ge-HEADER_LENGTH c = no_room c.args.m (lines_of (drop c.args.from c.args.source.now)) c.args.buf.now (inr (sym c.entries_fit.ensures ∙ c.if-entries_fit.false))
+pub returns-else-entries_fit : goal.returns-else-entries_fit
+returns-else-entries_fit c = no_room c.args.m (lines_of (drop c.args.from c.args.source.now)) c.args.buf.now (inr (sym c.entries_fit.ensures ∙ c.if-entries_fit.false))
 
-pub returns : goal.returns
-returns c = no_room c.args.m (lines_of (drop c.args.from c.args.source.now)) c.args.buf.now (inl c.if-room-ge-HEADER_LENGTH.false)
+pub returns-else-room-ge-HEADER_LENGTH : goal.returns-else-room-ge-HEADER_LENGTH
+returns-else-room-ge-HEADER_LENGTH c = no_room c.args.m (lines_of (drop c.args.from c.args.source.now)) c.args.buf.now (inl c.if-room-ge-HEADER_LENGTH.false)

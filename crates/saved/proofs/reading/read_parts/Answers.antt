@@ -1,8 +1,12 @@
-use Rattle.saved.proofs.Judged.{accepted-parts}
-use mathlib.Core.Path.{sym, ◌∙◌}
+use mathlib.Core.Path.{refl}
+use Rattle.saved.proofs.Judged.{accepted-parts, refused-parts}
 use Rattle.saved.proofs.reading.read_parts.Goals as goal
 
-pub returns-then-is_done : goal.returns-then-is_done
-returns-then-is_done c =
-    accepted-parts c.args.edition c.args.text.now _ _ _ _ c.judge_text-answer.ensures c.machine_from-m.ensures _
-    (sym c.is_done.ensures ∙ c.if-is_done.true) c.judge_machine.ensures c.read_as.ensures
+pub returns-in-Ok : goal.returns-in-Ok
+returns-in-Ok c =
+    accepted-parts c.args.edition c.args.text.now _ _ _ _ c.in-Ok.ensures c.machine_from-m.ensures _
+    refl c.judge_machine.ensures c.read_as.ensures
+
+pub returns-in-Err : goal.returns-in-Err
+returns-in-Err c =
+    refused-parts c.args.edition c.args.text.now _ _ _ _ c.in-Err.ensures c.machine_from-m.ensures refl c.read_as-in-Err.ensures
