@@ -1,6 +1,6 @@
 pub mod RowFacts
 pub mod Turns
-pub mod Lines
+pub mod Said
 pub mod Small
 pub mod ReadBack
 pub mod ByteLaws

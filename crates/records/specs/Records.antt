@@ -2,15 +2,19 @@
 use Rattle.std.specs.Prelude.{Bool, true, false, cond, List, [], ◌∷◌, ◌++◌, ◌≡◌, ℕ, ◌+◌, ◌/◌, ◌%◌, ◌^◌, ◌<◌, eqb, leb, length, take, drop, get_or}
 use Rattle.text.specs.Numbers.{digits, number_of}
 use Rattle.text.specs.Parts.{tab, lf}
-use Rattle.records.specs.Rows.{Row, flag, command}
+use Rattle.records.specs.Rows.{Row}
+use Rattle.records.specs.declared.table.Form.{Form}
+use Rattle.records.specs.declared.table.Form.TheVariants.{Hex, Flag, Command}
 
 -- a waiting command: none, or 1 and the byte
 unfoldable pub command_of : ℕ → ℕ
 command_of v = cond (eqb (v / 2 ^ 8 % 2) 1) (2 ^ 8 + v % 2 ^ 8) 0
 
 -- what a form writes of a value
-unfoldable pub formed : ℕ → ℕ → ℕ
-formed form v = cond (eqb form flag) (v % 2) (cond (eqb form command) (command_of v) v)
+unfoldable pub formed : Form → ℕ → ℕ
+formed Hex v = v
+formed Flag v = v % 2
+formed Command v = command_of v
 
 -- a record: its name, a tab, its digits and LF
 abbrev pub record_text : Row → ℕ → List ℕ

@@ -1,34 +1,36 @@
 -- The table of the records (docs/SAVED.md, "The saved text"), in their order, but for the four of general event bytes, which stand last.
 use Rattle.std.specs.Prelude.{List, [], ◌∷◌, ℕ, get_or}
 use Prim.Native.String.{String}
+use Rattle.records.specs.declared.table.Form.{Form}
+use Rattle.records.specs.declared.table.Form.TheVariants.{Hex, Flag, Command}
 use Rattle.records.specs.Ascii.{ascii}
 
 -- the forms of a value: hex digits; a flag, 0 or 1; a command, 000, or 1 and the byte
-abbrev pub hex : ℕ
-hex = 0
+abbrev pub hex : Form
+hex = Hex
 
-abbrev pub flag : ℕ
-flag = 1
+abbrev pub flag : Form
+flag = Flag
 
-abbrev pub command : ℕ
-command = 2
+abbrev pub command : Form
+command = Command
 
 -- a record: its name, its value's form and number of hex digits, the edition since which it is there, and its power-on setting, with which an older
 -- text reads
 pub record Row : Type 0 where
   pub name : List ℕ
-  pub form : ℕ
+  pub form : Form
   pub width : ℕ
   pub since : ℕ
   pub initial : ℕ
 
 -- a record that an edition added
-abbrev pub added : String → ℕ → ℕ → ℕ → ℕ → Row
+abbrev pub added : String → Form → ℕ → ℕ → ℕ → Row
 added name form width since initial =
     record { name = ascii name; form = form; width = width; since = since; initial = initial }
 
 -- a record of the first edition
-abbrev pub row : String → ℕ → ℕ → Row
+abbrev pub row : String → Form → ℕ → Row
 row name form width = added name form width 1 0
 
 -- how many rows there are
@@ -84,7 +86,7 @@ rows =
 
 -- what an index past the table reads
 abbrev pub no_row : Row
-no_row = record { name = []; form = 0; width = 0; since = 0; initial = 0 }
+no_row = record { name = []; form = hex; width = 0; since = 0; initial = 0 }
 
 -- a record's name, by its place in the table
 abbrev pub record_name : ℕ → List ℕ

@@ -16,21 +16,18 @@ pub fn write_bytes(buf: &mut [u8], at: usize, bytes: [u8; BYTES], count: usize)
     if buf.len() < at {
         return;
     }
-    if BYTES < count {
-        write_first(buf, at, bytes, BYTES);
-        return;
+    match bytes.get(..count) {
+        Some(first) => write_all(buf, at, first),
+        None => write_all(buf, at, &bytes),
     }
-    write_first(buf, at, bytes, count);
 }
 
-fn write_first(buf: &mut [u8], at: usize, bytes: [u8; BYTES], count: usize)
-    requires { (count ≤ 8) × (at ≤ length buf.old) }
-    ensures { buf.new ≡ sets buf.old at (bytes_text (take count bytes)) }
+fn write_all(buf: &mut [u8], at: usize, bytes: &[u8])
+    requires { (length bytes.now ≤ 8) × (at ≤ length buf.old) }
+    ensures { buf.new ≡ sets buf.old at (bytes_text bytes.now) }
 {
-    let mut i: usize = 0;
-    while i < count {
-        write_hex(buf, at + i * 2, bytes[i] as u64, 2);
-        i += 1;
+    for (i, byte) in bytes.iter().enumerate() {
+        write_hex(buf, at + i * 2, u64::from(*byte), 2);
     }
 }
 
@@ -45,10 +42,8 @@ fn read_first(text: &[u8], count: usize) -> [u8; BYTES]
     ensures { result ≡ bytes_in 8 count text.now }
 {
     let mut bytes = [0u8; BYTES];
-    let mut i: usize = 0;
-    while i < BYTES {
-        bytes[i] = read_byte(text, i * 2, i < count);
-        i += 1;
+    for (i, byte) in bytes.iter_mut().enumerate() {
+        *byte = read_byte(text, i * 2, i < count);
     }
     bytes
 }
@@ -58,7 +53,7 @@ fn read_byte(text: &[u8], from: usize, here: bool) -> u8
     ensures { result ≡ cond here (byte_in (drop from text.now)) 0 }
 {
     if here {
-        return hex_value(part_at(text, from, 2)) as u8;
+        return hex_value(part_at(text, from, 2)).unwrap_or(0) as u8;
     }
     0
 }

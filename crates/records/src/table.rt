@@ -1,137 +1,203 @@
-// The table of the records, and what a line of it says.
-ghost use Rattle.std.specs.Prelude.{◌≡◌, ◌+◌, ◌<◌, length};
-ghost use Rattle.records.specs.Rows.{rows, row_count};
-ghost use Rattle.records.specs.Records.{is_in, record_length, length_in};
-ghost use Rattle.records.specs.Table.{number_at, form_of, row_of, rows_of, IsLine};
+// The table of the records, and what each of them says.
+ghost use Rattle.std.specs.Prelude.{◌≡◌, ◌+◌, ◌≤◌, ◌<◌, ◌^◌, length, drop};
+ghost use Rattle.std.proofs.lemmas.List.Edits.{sets};
+ghost use Rattle.records.specs.Records.{
+  command_of,
+  formed,
+  record_text,
+  text_in,
+  is_in,
+  record_length,
+  length_in,
+  value_in,
+  read_in,
+};
 
 use crate::parts::part_at;
-use text::hex_value;
+use text::{hex_value, write_byte, write_hex, write_text};
+
+const TAB: u8 = 9;
+
+const LF: u8 = 10;
 
 // The forms of a value: hex digits; a flag, 0 or 1; a command, 000, or 1 and the byte.
-pub const HEX: u8 = 0;
+#[derive(Clone, Copy, Debug, PartialEq, Eq)]
+pub enum Form {
+    Hex,
+    Flag,
+    Command,
+}
 
-pub const FLAG: u8 = 1;
+// A record: its name, its form, how many hex digits its value has, the edition since which it is there, and its power-on setting, with which an older
+// text reads.
+#[derive(Clone, Copy)]
+pub(crate) struct Record {
+    name: &'static [u8],
+    form: Form,
+    width: usize,
+    since: u64,
+    initial: u64,
+    ghost short: { (length name.now ≤ 16) × (width ≤ 16) },
+}
 
-pub const COMMAND: u8 = 2;
+// A record that an edition added.
+macro_rules! added {
+    ($name:literal, $form:ident, $width:literal, $since:literal, $initial:literal) => {
+        Record {
+            name: $name,
+            form: Form::$form,
+            width: $width,
+            since: $since,
+            initial: $initial,
+        }
+    };
+}
+
+// A record of the first edition.
+macro_rules! row {
+    ($name:literal, $form:ident, $width:literal) => {
+        added!($name, $form, $width, 1, 0)
+    };
+}
 
 // How many records have a number.
 pub const RECORDS: usize = 43;
 
-// A line's length, and where its columns stand past the name.
-pub(crate) const LINE: usize = 50;
+pub(crate) const TABLE: [Record; RECORDS] = [
+    row!(b"SMI_CMD", Hex, 16),
+    row!(b"ACPI_ENABLE", Hex, 2),
+    row!(b"ACPI_DISABLE", Hex, 2),
+    row!(b"PM1a_EVT_BLK", Hex, 16),
+    row!(b"PM1b_EVT_BLK", Hex, 16),
+    row!(b"PM1a_CNT_BLK", Hex, 16),
+    row!(b"PM1b_CNT_BLK", Hex, 16),
+    row!(b"PM2_CNT_BLK", Hex, 16),
+    row!(b"PM_TMR_BLK", Hex, 16),
+    row!(b"GPE0_BLK", Hex, 16),
+    row!(b"GPE1_BLK", Hex, 16),
+    row!(b"PM1_EVT_LEN", Hex, 2),
+    row!(b"PM1_CNT_LEN", Hex, 2),
+    row!(b"PM2_CNT_LEN", Hex, 2),
+    row!(b"PM_TMR_LEN", Hex, 2),
+    row!(b"GPE0_BLK_LEN", Hex, 2),
+    row!(b"GPE1_BLK_LEN", Hex, 2),
+    row!(b"GPE1_BASE", Hex, 2),
+    row!(b"FLAGS", Hex, 8),
+    row!(b"EVENT_HOMES", Hex, 4),
+    row!(b"CONTROL_HOMES", Hex, 4),
+    row!(b"OVERRIDE", Flag, 1),
+    row!(b"S0", Hex, 4),
+    row!(b"S1", Hex, 4),
+    row!(b"S2", Hex, 4),
+    row!(b"S3", Hex, 4),
+    row!(b"S4", Hex, 4),
+    row!(b"S5", Hex, 4),
+    row!(b"PM1a_STS", Hex, 4),
+    row!(b"PM1b_STS", Hex, 4),
+    row!(b"PM1a_EN", Hex, 4),
+    row!(b"PM1b_EN", Hex, 4),
+    row!(b"PM1a_CNT", Hex, 4),
+    row!(b"PM1b_CNT", Hex, 4),
+    row!(b"PM2_CNT", Hex, 2),
+    row!(b"PM_TMR", Hex, 8),
+    row!(b"HOLD", Hex, 8),
+    row!(b"BUTTON", Flag, 1),
+    row!(b"COMMAND", Command, 3),
+    row!(b"RELEASE", Flag, 1),
+    row!(b"ARMED", Flag, 1),
+    row!(b"STATE", Hex, 1),
+    added!(b"WAKE_PIN", Flag, 1, 2, 0),
+];
 
-pub(crate) const SIZE: usize = 17;
-
-pub(crate) const FORM: usize = 20;
-
-pub(crate) const WIDTH: usize = 28;
-
-const SINCE: usize = 31;
-
-const INITIAL: usize = 34;
-
-// A line a record: its name, the name's length, its form, how many hex digits its value has, the edition since which it is there, and its power-on
-// setting, with which an older text reads.
-const TABLE: [u8; LINE * RECORDS] = *b"\
-    SMI_CMD           7 hex     16  1 0000000000000000\
-    ACPI_ENABLE      11 hex      2  1 0000000000000000\
-    ACPI_DISABLE     12 hex      2  1 0000000000000000\
-    PM1a_EVT_BLK     12 hex     16  1 0000000000000000\
-    PM1b_EVT_BLK     12 hex     16  1 0000000000000000\
-    PM1a_CNT_BLK     12 hex     16  1 0000000000000000\
-    PM1b_CNT_BLK     12 hex     16  1 0000000000000000\
-    PM2_CNT_BLK      11 hex     16  1 0000000000000000\
-    PM_TMR_BLK       10 hex     16  1 0000000000000000\
-    GPE0_BLK          8 hex     16  1 0000000000000000\
-    GPE1_BLK          8 hex     16  1 0000000000000000\
-    PM1_EVT_LEN      11 hex      2  1 0000000000000000\
-    PM1_CNT_LEN      11 hex      2  1 0000000000000000\
-    PM2_CNT_LEN      11 hex      2  1 0000000000000000\
-    PM_TMR_LEN       10 hex      2  1 0000000000000000\
-    GPE0_BLK_LEN     12 hex      2  1 0000000000000000\
-    GPE1_BLK_LEN     12 hex      2  1 0000000000000000\
-    GPE1_BASE         9 hex      2  1 0000000000000000\
-    FLAGS             5 hex      8  1 0000000000000000\
-    EVENT_HOMES      11 hex      4  1 0000000000000000\
-    CONTROL_HOMES    13 hex      4  1 0000000000000000\
-    OVERRIDE          8 flag     1  1 0000000000000000\
-    S0                2 hex      4  1 0000000000000000\
-    S1                2 hex      4  1 0000000000000000\
-    S2                2 hex      4  1 0000000000000000\
-    S3                2 hex      4  1 0000000000000000\
-    S4                2 hex      4  1 0000000000000000\
-    S5                2 hex      4  1 0000000000000000\
-    PM1a_STS          8 hex      4  1 0000000000000000\
-    PM1b_STS          8 hex      4  1 0000000000000000\
-    PM1a_EN           7 hex      4  1 0000000000000000\
-    PM1b_EN           7 hex      4  1 0000000000000000\
-    PM1a_CNT          8 hex      4  1 0000000000000000\
-    PM1b_CNT          8 hex      4  1 0000000000000000\
-    PM2_CNT           7 hex      2  1 0000000000000000\
-    PM_TMR            6 hex      8  1 0000000000000000\
-    HOLD              4 hex      8  1 0000000000000000\
-    BUTTON            6 flag     1  1 0000000000000000\
-    COMMAND           7 command  3  1 0000000000000000\
-    RELEASE           7 flag     1  1 0000000000000000\
-    ARMED             5 flag     1  1 0000000000000000\
-    STATE             5 hex      1  1 0000000000000000\
-    WAKE_PIN          8 flag     1  2 0000000000000000\
-";
-
-// The table, made once for a whole text.
-pub(crate) fn table() -> [u8; LINE * RECORDS]
-    ensures { rows_of row_count result ≡ rows }
+// What a form writes of a value.
+#[tactic(auto, unfolding(crate::specs::Records::formed))]
+pub fn formed(form: Form, v: u64) -> u64
+    ensures { result ≡ formed form v }
 {
-    TABLE
-}
-
-// The number in two columns; a blank counts as 0.
-pub(crate) fn number_at(line: &[u8], column: usize) -> usize
-    requires { column + 1 < length line.now }
-    ensures { result ≡ number_at column line.now }
-{
-    (line[column] % 16) as usize * 10 + (line[column + 1] % 16) as usize
-}
-
-// A form by its first letter.
-pub(crate) fn form_of(letter: u8) -> u8
-    ensures { result ≡ form_of letter }
-{
-    if letter == b'f' {
-        return FLAG;
+    match form {
+        Form::Hex => v,
+        Form::Flag => v % 2,
+        Form::Command => command_of(v),
     }
-    if letter == b'c' {
-        return COMMAND;
+}
+
+// A waiting command: none, or 1 and the byte.
+#[tactic(auto, unfolding(crate::specs::Records::command_of))]
+fn command_of(v: u64) -> u64
+    ensures { result ≡ command_of v }
+{
+    if v / 256 % 2 == 1 { 256 + v % 256 } else { 0 }
+}
+
+impl Record {
+    ghost use Rattle.records.specs.Table.{row_of};
+
+    fn is_in(&self, edition: u64) -> bool
+        ensures { result ≡ is_in edition (row_of self.now) }
+    {
+        self.since <= edition
     }
-    HEX
-}
 
-pub(crate) fn is_in(edition: u64, line: &[u8]) -> bool
-    requires { IsLine line.now }
-    ensures { result ≡ is_in edition (row_of line.now) }
-{
-    number_at(line, SINCE) as u64 <= edition
-}
-
-pub(crate) fn initial(line: &[u8]) -> u64
-    ensures { result ≡ (row_of line.now).initial }
-{
-    hex_value(part_at(line, INITIAL, 16))
-}
-
-fn record_length(line: &[u8]) -> usize
-    requires { IsLine line.now }
-    ensures { result ≡ record_length (row_of line.now) }
-{
-    number_at(line, SIZE) + 1 + number_at(line, WIDTH) + 1
-}
-
-pub(crate) fn length_in(edition: u64, line: &[u8]) -> usize
-    requires { IsLine line.now }
-    ensures { result ≡ length_in edition (row_of line.now) }
-{
-    if is_in(edition, line) {
-        return record_length(line);
+    fn length(&self) -> usize
+        ensures { result ≡ record_length (row_of self.now) }
+    {
+        self.name.len() + 1 + self.width + 1
     }
-    0
+
+    pub(crate) fn length_in(&self, edition: u64) -> usize
+        ensures { result ≡ length_in edition (row_of self.now) }
+    {
+        if self.is_in(edition) { self.length() } else { 0 }
+    }
+
+    // The record, if the edition has it; the answer is how many bytes that is.
+    pub(crate) fn write_in(&self, buf: &mut [u8], at: usize, edition: u64, v: u64) -> usize
+        requires { at + record_length (row_of self.now) < 2 ^ 64 }
+        ensures { (result ≡ length_in edition (row_of self.now)) × (buf.new ≡ sets buf.old at (text_in edition (row_of self.now) v)) }
+    {
+        if self.is_in(edition) {
+            return self.write(buf, at, v);
+        }
+        0
+    }
+
+    fn write(&self, buf: &mut [u8], at: usize, v: u64) -> usize
+        requires { at + record_length (row_of self.now) < 2 ^ 64 }
+        ensures { (result ≡ record_length (row_of self.now)) × (buf.new ≡ sets buf.old at (record_text (row_of self.now) v)) }
+    {
+        let tab = at + self.write_name(buf, at);
+        let digits = tab + 1;
+        write_byte(buf, tab, TAB);
+        write_hex(buf, digits, formed(self.form, v), self.width);
+        write_byte(buf, digits + self.width, LF);
+        self.length()
+    }
+
+    // The name; the answer is its length.
+    pub(crate) fn write_name(&self, buf: &mut [u8], at: usize) -> usize
+        ensures { (result ≡ length (row_of self.now).name) × (buf.new ≡ sets buf.old at (row_of self.now).name) }
+    {
+        write_text(buf, at, self.name);
+        self.name.len()
+    }
+
+    // What the record reads as, if the edition has it, and else its power-on setting.
+    pub(crate) fn read_in(&self, text: &[u8], from: usize, edition: u64) -> u64
+        requires { from + record_length (row_of self.now) < 2 ^ 64 }
+        ensures { result ≡ read_in edition (row_of self.now) (drop from text.now) }
+    {
+        if self.is_in(edition) {
+            return self.read(text, from);
+        }
+        self.initial
+    }
+
+    // 0 where no number stands.
+    fn read(&self, text: &[u8], from: usize) -> u64
+        requires { from + record_length (row_of self.now) < 2 ^ 64 }
+        ensures { result ≡ value_in (row_of self.now) (drop from text.now) }
+    {
+        let digits = from + self.name.len() + 1;
+        hex_value(part_at(text, digits, self.width)).unwrap_or(0)
+    }
 }

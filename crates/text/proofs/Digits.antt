@@ -1,6 +1,7 @@
 -- Laws of numbers as texts: what is written reads back, what was read is written as it stood, and what fits.
 -- By recursion on the digits, in any base of 2 to 16. Assumes nothing.
 use mathlib.Core.Path.{◌≡◌, refl, sym, ap, ◌∙◌}
+use Rattle.std.specs.Option.{unwrap_or}
 use Rattle.std.proofs.Common.{Some, None}
 use mathlib.Core.Bool.{Bool, true, false, cond, ◌&&◌, and-false as and_false}
 use mathlib.Core.List.{List, [], ◌∷◌, ◌++◌, append_assoc, append-nil}
@@ -101,6 +102,15 @@ number-in-digits b m xs l h e = rw (lt-ltb 0 (length xs) l, le-leb (length xs) m
 pub number-in-none : (b m : ℕ) (xs : List ℕ) → all_digits b xs ≡ false → number_in b m xs ≡ None
 unfolding number_in is_number
 number-in-none b m xs e = rw (e, and_false, and_false) refl
+
+-- 0 in place of no number
+pub number_or_zero : (b m : ℕ) (xs : List ℕ) → unwrap_or (number_in b m xs) 0 ≡ number_of b m xs
+unfolding number_in number_of
+number_or_zero b m xs = go (is_number b m xs)
+  where
+    go : (t : Bool) → unwrap_or (cond t (Some (value_of b xs)) None) 0 ≡ cond t (value_of b xs) 0
+    go true = refl
+    go false = refl
 
 -- a text that is a number is its value
 pub number-is-value : (b m : ℕ) (xs : List ℕ) → is_number b m xs ≡ true → number_of b m xs ≡ value_of b xs

@@ -7,11 +7,11 @@ use Rattle.records.proofs.bytes.read_first.Goals as goal
 
 pub loop-i-preserved : goal.loop-i-preserved
 loop-i-preserved c = (
-  rw c.read_byte.ensures (read-byte-turn 8 c.args.count c.loop-i.i c.args.text.now c.loop-i.bytes (omega arith) (omega (arith, c.loop-i.invariant.1)) ∙ c.loop-i.invariant.0),
+  rw c.read_byte.ensures (read-byte-turn 8 c.args.count c.loop-i.i c.args.text.now c.loop-i.byte-items (omega arith) (omega (arith, c.loop-i.invariant.1)) ∙ c.loop-i.invariant.0),
   rw length-set c.loop-i.invariant.1,
 )
 
 pub returns : goal.returns
 returns c =
-    sym (read-bytes-end 8 (c.args.count - c.loop-i.i) c.loop-i.i c.loop-i.bytes (drop (c.loop-i.i * 2) c.args.text.now) (omega arith) (omega (arith, c.loop-i.invariant.1)))
+    sym (read-bytes-end 8 (c.args.count - c.loop-i.i) c.loop-i.i c.loop-i.byte-items (drop (c.loop-i.i * 2) c.args.text.now) (omega arith) (omega (arith, c.loop-i.invariant.1)))
     ∙ c.loop-i.invariant.0

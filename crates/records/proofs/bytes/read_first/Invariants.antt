@@ -8,7 +8,4 @@ use Rattle.records.proofs.bytes.read_first.Given as goal
 
 abbrev pub invariant-loop-i : goal.invariant-loop-i
 invariant-loop-i l =
-    (take l.i l.bytes ++ bytes_in (8 - l.i) (l.count - l.i) (drop (l.i * 2) l.text) ≡ bytes_in 8 l.count l.text) × (length l.bytes ≡ 8)
-
-abbrev pub decreases-loop-i : goal.decreases-loop-i
-decreases-loop-i l = 8 - l.i
+    (take l.i l.byte-items ++ bytes_in (8 - l.i) (l.count - l.i) (drop (l.i * 2) l.text) ≡ bytes_in 8 l.count l.text) × (length l.byte-items ≡ 8)
