@@ -59,20 +59,7 @@ pub fn refusal_number(r: SetUpRefusal) -> u8
 pub fn refusal_value(r: SetUpRefusal) -> u32
     ensures { result ≡ refusal_value r }
 {
-    match r {
-        SetUpRefusal::TableShort => 0,
-        SetUpRefusal::NoSignature => 0,
-        SetUpRefusal::WrongLength => 0,
-        SetUpRefusal::WrongSum => 0,
-        SetUpRefusal::HardwareReduced => 0,
-        SetUpRefusal::BlockLength => 0,
-        SetUpRefusal::BlockPlace => 0,
-        SetUpRefusal::BlocksOverlap => 0,
-        SetUpRefusal::Gpe1Numbers => 0,
-        SetUpRefusal::SameCommands => 0,
-        SetUpRefusal::WrongHomes => 0,
-        SetUpRefusal::SleepPairs => 0,
-    }
+    0
 }
 
 pub fn number(a: Result<(), SetUpRefusal>) -> u8
