@@ -1,11 +1,11 @@
 -- Laws for the loops over a script's lines: one turn, and the end. Assumes nothing.
-use mathlib.Core.Bool.{Bool, true, false, cond}
+use mathlib.Core.Bool.{Bool, true, false, cond, ◌&&◌}
 use mathlib.Core.List.{List, [], ◌∷◌, ◌++◌}
-use Rattle.std.specs.Prelude.{Option, Some}
 use mathlib.Core.Path.{◌≡◌, refl, sym, ◌∙◌, ap}
 use mathlib.Core.Logic.{◌⊎◌, inl, inr}
 use Prim.Native.Nat.{ℕ, suc, ◌+◌, ◌-◌, ◌*◌, ◌/◌, ◌≤◌, ◌<◌}
 use native.Mathlib.Nat.{zero-add, suc-mul, le_trans, lt_of_le_of_lt, le-div_iff_mul-le}
+use native.Mathlib.Numerals.{add-one}
 use native.Mathlib.Omega.{arith}
 use borrow.Author.Tests.{ltb-true, ltb-false, leb-true, leb-false, le-leb, lt-leb}
 use lib.Dec.{ltb, leb}
@@ -53,32 +53,15 @@ module _ (xs : List ℕ) (i : ℕ) where
       go true e = omega (arith, long, ltb-true (end_of lf xs i) (length xs) e)
       go false e = omega (arith, long, ltb-false (end_of lf xs i) (length xs) e)
 
-  -- a line that says a step reads where it ends within the limit
-  pub step-read : (l : List ℕ) (r : Option Step) (next : ℕ) (s : Step) → l ≡ line_at → r ≡ line_of l → next ≡ next_line xs i → r ≡ Some s
-      → leb next limit ≡ step_reads (length xs) i line_at
-  unfolding step_reads
-  step-read l r next s p q e k =
-      let says : line_of line_at ≡ Some s = ap line_of (sym p) ∙ sym q ∙ k in
-      rw (says, e, next-is-end) refl
+-- a first line that reads, and one that does not; where it ends is given
+module _ (size k at end : ℕ) (l : List ℕ) (ls : List (List ℕ)) (e : end ≡ line_end size at l) where
+  pub unread-turn : (is_step (line_of l) && leb end limit) ≡ true → first_unread size (k + 1) end ls ≡ first_unread size k at (l ∷ ls)
+  unfolding first_unread step_reads
+  unread-turn r = rw (add-one, ← e, r) refl
 
-  -- a step's line ends within the limit
-  pub read-within : step_reads (length xs) i line_at ≡ true → next_line xs i ≤ limit
-  unfolding step_reads
-  read-within e = rw next-is-end (leb-true _ _ (and_right (is_step (line_of line_at)) _ e))
-
-  -- a line that reads, and one that does not
-  pub unread-turn : (k : ℕ) → i < length xs → step_reads (length xs) i line_at ≡ true
-      → first_unread (length xs) k i (lines_of (drop i xs)) ≡ first_unread (length xs) (suc k) (next_line xs i) (lines_of (drop (next_line xs i) xs))
-  unfolding first_unread
-  unread-turn k h e = rw (line-turn xs i h, e, next-is-end) refl
-
-  pub unread-here : (k : ℕ) → i < length xs → step_reads (length xs) i line_at ≡ false → first_unread (length xs) k i (lines_of (drop i xs)) ≡ Some k
-  unfolding first_unread
-  unread-here k h e = rw (line-turn xs i h, e) refl
-
-  pub unread-end : (k : ℕ) → length xs ≤ i → first_unread (length xs) k i (lines_of (drop i xs)) ≡ None
-  unfolding first_unread
-  unread-end k h = rw (line-end xs i h) refl
+  pub unread-here : (is_step (line_of l) && leb end limit) ≡ false → Some k ≡ first_unread size k at (l ∷ ls)
+  unfolding first_unread step_reads
+  unread-here r = rw (← e, r) refl
 
 -- a write keeps the buffer's length
 pub put-length : (buf : List ℕ) (o : ℕ) (text : List ℕ) → length (put_at buf o text) ≡ length buf
@@ -90,71 +73,41 @@ put-length buf o text = go (leb (o + length text) (length buf))
 
 -- ---- the listing's lines
 
-module _ (xs : List ℕ) (i : ℕ) where
-  -- what the step of the line from a place on gives
-  abbrev pub done_at : Machine → Stepped
-  done_at m = step_of m (step_in (line_of (line_at xs i)))
+module _ (k : ℕ) (m : Machine) (l : List ℕ) (ls : List (List ℕ)) where
+  -- what the step of the first line gives
+  abbrev pub done : Stepped
+  done = step_of m (step_in (line_of l))
 
-  -- the lines from a place on
-  abbrev pub entries_at : ℕ → Machine → List ℕ
-  entries_at k m = entries k m (lines_of (drop i xs))
+  -- the lines after it
+  abbrev pub more : List ℕ
+  more = entries (suc k) done.machine ls
 
-  module _ (k : ℕ) (m : Machine) where
-    -- those after the first
-    abbrev pub more_at : List ℕ
-    more_at = entries (suc k) (done_at m).machine (lines_of (drop (next_line xs i) xs))
+  pub entries-length : length (entries k m (l ∷ ls)) ≡ entry_length k done.answer + length more
+  unfolding entries
+  entries-length =
+      length-append (entry k done.answer done.machine) more
+      ∙ ap (λ (n : ℕ). n + length more) (entry_length_lem k done.answer done.machine)
 
-    pub entries-turn : i < length xs → entries_at k m ≡ entry k (done_at m).answer (done_at m).machine ++ more_at
-    unfolding entries
-    entries-turn h = rw (line-turn xs i h) refl
+  module _ (left n : ℕ) (e : n ≡ entry_length k done.answer) where
+    pub fit-turn : n ≤ left → leb (length more) (left - n) ≡ leb (length (entries k m (l ∷ ls))) left
+    fit-turn p = go (leb (length more) (left - n)) refl
+      where
+        go : (t : Bool) → leb (length more) (left - n) ≡ t → t ≡ leb (length (entries k m (l ∷ ls))) left
+        go true q = sym (le-leb (length (entries k m (l ∷ ls))) left (omega (arith, entries-length, e, p, leb-true (length more) (left - n) q)))
+        go false q = sym (lt-leb (length (entries k m (l ∷ ls))) left (omega (arith, entries-length, e, p, leb-false (length more) (left - n) q)))
 
-    pub entries-end : length xs ≤ i → entries_at k m ≡ []
-    unfolding entries
-    entries-end h = rw (line-end xs i h) refl
+    pub fit-not : left < n → leb (length (entries k m (l ∷ ls))) left ≡ false
+    fit-not p = lt-leb (length (entries k m (l ∷ ls))) left (omega (arith, entries-length, e, p))
 
-    pub entries-length : i < length xs → length (entries_at k m) ≡ entry_length k (done_at m).answer + length more_at
-    entries-length h =
-        ap length (entries-turn h)
-        ∙ length-append (entry k (done_at m).answer (done_at m).machine) more_at
-        ∙ ap (λ (n : ℕ). n + length more_at) (entry_length_lem k (done_at m).answer (done_at m).machine)
-
-    module _ (left n : ℕ) where
-      pub fit-turn : i < length xs → n ≡ entry_length k (done_at m).answer → n ≤ left → leb (length more_at) (left - n) ≡ leb (length (entries_at k m)) left
-      fit-turn h e p = go (leb (length more_at) (left - n)) refl
-        where
-          go : (t : Bool) → leb (length more_at) (left - n) ≡ t → t ≡ leb (length (entries_at k m)) left
-          go true q = sym (le-leb (length (entries_at k m)) left (omega (arith, entries-length h, e, p, leb-true (length more_at) (left - n) q)))
-          go false q = sym (lt-leb (length (entries_at k m)) left (omega (arith, entries-length h, e, p, leb-false (length more_at) (left - n) q)))
-
-      pub fit-not : i < length xs → n ≡ entry_length k (done_at m).answer → left < n → leb (length (entries_at k m)) left ≡ false
-      fit-not h e p = lt-leb (length (entries_at k m)) left (omega (arith, entries-length h, e, p))
-
-    pub fit-end : (left : ℕ) → length xs ≤ i → leb (length (entries_at k m)) left ≡ true
-    fit-end left h = rw (entries-end h) (le-leb 0 left (omega arith))
-
-    -- the first line written where all fit, then the rest
-    pub write-turn : (buf : List ℕ) (o : ℕ) → i < length xs → o + length (entries_at k m) ≤ length buf
-        → sets (put_at buf o (entry k (done_at m).answer (done_at m).machine)) (o + entry_length k (done_at m).answer) more_at ≡ sets buf o (entries_at k m)
-    write-turn buf o h p =
-        let long = entry_length_lem k (done_at m).answer (done_at m).machine in
-        let fit : o + length (entry k (done_at m).answer (done_at m).machine) ≤ length buf = omega (arith, entries-length h, p, long) in
-        rw (le-leb _ _ fit, entries-turn h)
-        (sym (sets_then buf o (o + entry_length k (done_at m).answer) (entry k (done_at m).answer (done_at m).machine) more_at (ap (λ (n : ℕ). o + n) long)))
-
--- ---- the machine after the steps
-
-module _ (xs : List ℕ) (i : ℕ) (m : Machine) where
-  -- the machine after the lines from a place on
-  abbrev pub ended_at : Machine
-  ended_at = ended m (lines_of (drop i xs))
-
-  pub ended-turn : i < length xs → ended_at ≡ ended (done_at xs i m).machine (lines_of (drop (next_line xs i) xs))
-  unfolding ended
-  ended-turn h = rw (line-turn xs i h) refl
-
-  pub ended-end : length xs ≤ i → ended_at ≡ m
-  unfolding ended
-  ended-end h = rw (line-end xs i h) refl
+  -- the first line written where all fit, then the rest
+  pub write-turn : (buf : List ℕ) (o : ℕ) → o + length (entries k m (l ∷ ls)) ≤ length buf
+      → sets (put_at buf o (entry k done.answer done.machine)) (o + entry_length k done.answer) more ≡ sets buf o (entries k m (l ∷ ls))
+  unfolding entries
+  write-turn buf o p =
+      let long = entry_length_lem k done.answer done.machine in
+      let fit : o + length (entry k done.answer done.machine) ≤ length buf = omega (arith, entries-length, p, long) in
+      rw (le-leb _ _ fit)
+      (sym (sets_then buf o (o + entry_length k done.answer) (entry k done.answer done.machine) more (ap (λ (n : ℕ). o + n) long)))
 
 -- ---- the listing, where it fits and where not
 

@@ -1,13 +1,13 @@
 // A session: a script run on a table's machine, or steps on a given one, and its listing or the machine at its end.
 #![tactic(auto)]
 
-ghost use Rattle.std.specs.Prelude.{◌≡◌, ◌+◌, ◌/◌, ◌≤◌, leb, length, drop};
+ghost use Rattle.std.specs.Prelude.{◌≡◌, ◌+◌, ◌/◌, ◌≤◌, ◌&&◌, leb, length, drop};
 ghost use Rattle.std.proofs.lemmas.List.Edits.{sets};
 ghost use Rattle.text.specs.Numbers.{digit_count};
-ghost use Rattle.text.specs.Parts.{lf, front, lines_of};
+ghost use Rattle.text.specs.Parts.{lines_of};
 ghost use Rattle.session.specs.Answer.{session_number, session_value, end_number, end_value};
 ghost use Rattle.session.specs.declared.SessionRefusal.TheVariants as refusal;
-ghost use Rattle.session.specs.Session.{step_reads, step_in, entries, ended, listing_of, answer_for, text_for, no_end, unread, run_answer, run_buffer, run_end, platform_line_reads, set_up_by, once_set_up, answer_of, buffer_after, session_end, resumed_answer, resumed_buffer, resumed_end};
+ghost use Rattle.session.specs.Session.{limit, line_end, is_step, step_in, entries, ended, listing_of, answer_for, text_for, no_end, unread, run_answer, run_buffer, run_end, platform_line_reads, set_up_by, once_set_up, answer_of, buffer_after, session_end, resumed_answer, resumed_buffer, resumed_end};
 ghost use Rattle.model.specs.Step.{step_of};
 ghost use Rattle.script.specs.StepLine.{line_of};
 
@@ -16,7 +16,7 @@ use machine::{Machine, SetUp, all_zero};
 use model::{Step, Stepped};
 use platform::SetUpRefusal;
 use script::{host, line_of, platform_reads};
-use text::{decimal_digits, line_count, line_from, next_line};
+use text::{decimal_digits, each_line, line_count, line_from, next_line, rest_from};
 
 // Why a session has no end.
 #[derive(Clone, Copy)]
@@ -55,14 +55,23 @@ pub struct Ended {
 // A script's bytes past this many do not read.
 pub const LIMIT: usize = 65536;
 
-// Whether the line that begins at a place is a step and ends within the limit.
-fn step_reads(source: &[u8], start: usize) -> bool
-    ensures { result ≡ step_reads (length source.now) start (front lf (drop start source.now)) }
+// Where a line that begins at a place ends, its LF with it, in a script of this size.
+fn line_end(size: usize, at: usize, line: &[u8]) -> usize
+    ensures { result ≡ line_end size at line.now }
 {
-    let next = next_line(source, start);
-    let line = line_of(line_from(source, start));
-    match line {
-        Some(_) => next <= LIMIT,
+    if at < size && line.len() < size - at {
+        at + line.len() + 1
+    } else {
+        size
+    }
+}
+
+// Whether a line is a step and ends, here, within the limit.
+fn step_reads(line: &[u8], end: usize) -> bool
+    ensures { result ≡ (is_step (line_of line.now) && leb end limit) }
+{
+    match line_of(line) {
+        Some(_) => end <= LIMIT,
         None => false,
     }
 }
@@ -73,14 +82,13 @@ fn first_unread(source: &[u8], from: usize, first: usize) -> Option<usize>
     ensures { result ≡ unread source.now from first }
 {
     let mut k = first;
-    let mut start = from;
-    while start < source.len() {
-        if step_reads(source, start) {
-            start = next_line(source, start);
-            k += 1;
-        } else {
+    let mut at = from;
+    for line in each_line(rest_from(source, from)) {
+        at = line_end(source.len(), at, line);
+        if !step_reads(line, at) {
             return Some(k);
         }
+        k += 1;
     }
     None
 }
@@ -94,11 +102,11 @@ fn step_in(line: Option<Step>) -> Step
     }
 }
 
-// The step of the line that begins at a place, done.
-fn stepped_at(m: Machine, source: &[u8], start: usize) -> Stepped
-    ensures { result ≡ step_of m (step_in (line_of (front lf (drop start source.now)))) }
+// The step of a line, done.
+fn stepped(m: Machine, line: &[u8]) -> Stepped
+    ensures { result ≡ step_of m (step_in (line_of line.now)) }
 {
-    step::step(m, step_in(line_of(line_from(source, start))))
+    step::step(m, step_in(line_of(line)))
 }
 
 // Whether the lines of so many steps fit the room whatever they answer: a line has 18 bytes beside its two numbers, and no answer's number more than two digits.
@@ -108,101 +116,76 @@ fn any_entries_fit(steps: usize, room: usize) -> bool
     steps <= room / (20 + decimal_digits(steps as u64))
 }
 
-fn lines_from(source: &[u8], from: usize) -> usize
-    ensures { result ≡ length (lines_of (drop from source.now)) }
-{
-    if from <= source.len() {
-        line_count(&source[from..])
-    } else {
-        0
-    }
-}
-
-// Whether the lines of the steps from a place on fit the room, by running the steps.
-fn run_fits(m: Machine, source: &[u8], from: usize, room: usize) -> bool
-    ensures { result ≡ leb (length (entries 1 m (lines_of (drop from source.now)))) room }
+// Whether the lines of the steps fit the room, by running the steps.
+fn run_fits(m: Machine, steps: &[u8], room: usize) -> bool
+    ensures { result ≡ leb (length (entries 1 m (lines_of steps.now))) room }
 {
     let mut current = m;
     let mut k: u64 = 1;
-    let mut start = from;
     let mut left = room;
-    while start < source.len() {
-        let stepped = stepped_at(current, source, start);
-        let answer = stepped.answer;
-        let n = entry_length(k, answer);
+    for line in each_line(steps) {
+        let done = stepped(current, line);
+        let n = entry_length(k, done.answer);
         if left < n {
             return false;
         }
         left -= n;
-        current = stepped.machine;
+        current = done.machine;
         k += 1;
-        start = next_line(source, start);
     }
     true
 }
 
 // The same; in a room that is large enough for any answers no step is run.
-fn entries_fit(m: Machine, source: &[u8], from: usize, room: usize) -> bool
-    ensures { result ≡ leb (length (entries 1 m (lines_of (drop from source.now)))) room }
+fn entries_fit(m: Machine, steps: &[u8], room: usize) -> bool
+    ensures { result ≡ leb (length (entries 1 m (lines_of steps.now))) room }
 {
-    if any_entries_fit(lines_from(source, from), room) {
-        return true;
-    }
-    run_fits(m, source, from, room)
+    any_entries_fit(line_count(steps), room) || run_fits(m, steps, room)
 }
 
-// Writes the lines of the steps from a place on, which fit, and says where they end.
-fn write_entries(buf: &mut [u8], at: usize, m: Machine, source: &[u8], from: usize) -> usize
-    requires { at + length (entries 1 m (lines_of (drop from source.now))) ≤ length buf.old }
-    ensures { (result ≡ at + length (entries 1 m (lines_of (drop from source.now)))) × (buf.new ≡ sets buf.old at (entries 1 m (lines_of (drop from source.now)))) }
+// Writes the lines of the steps, which fit, at a place, and says where they end.
+fn write_entries(buf: &mut [u8], at: usize, m: Machine, steps: &[u8]) -> usize
+    requires { at + length (entries 1 m (lines_of steps.now)) ≤ length buf.old }
+    ensures { (result ≡ at + length (entries 1 m (lines_of steps.now))) × (buf.new ≡ sets buf.old at (entries 1 m (lines_of steps.now))) }
 {
     let mut current = m;
     let mut k: u64 = 1;
-    let mut start = from;
     let mut o = at;
-    while start < source.len() {
-        let stepped = stepped_at(current, source, start);
-        let answer = stepped.answer;
-        let next = stepped.machine;
+    for line in each_line(steps) {
+        let done = stepped(current, line);
+        let answer = done.answer;
+        let next = done.machine;
         write_entry(buf, o, k, answer, next);
         o += entry_length(k, answer);
         current = next;
         k += 1;
-        start = next_line(source, start);
     }
     o
 }
 
-// The header and the lines of the steps from a place on, where all of it fits.
-fn write_listing(
-    buf: &mut [u8],
-    m: Machine,
-    source: &[u8],
-    from: usize,
-) -> Result<usize, SessionRefusal>
-    ensures { (result ≡ answer_for (length (listing_of m (lines_of (drop from source.now)))) (length buf.old)) × (buf.new ≡ text_for (listing_of m (lines_of (drop from source.now))) buf.old) }
+// The header and the lines of the steps, where all of it fits.
+fn write_listing(buf: &mut [u8], m: Machine, steps: &[u8]) -> Result<usize, SessionRefusal>
+    ensures { (result ≡ answer_for (length (listing_of m (lines_of steps.now))) (length buf.old)) × (buf.new ≡ text_for (listing_of m (lines_of steps.now)) buf.old) }
 {
     let room = buf.len();
     if HEADER_LENGTH <= room {
-        if entries_fit(m, source, from, room - HEADER_LENGTH) {
+        if entries_fit(m, steps, room - HEADER_LENGTH) {
             write_header(buf);
-            let end = write_entries(buf, HEADER_LENGTH, m, source, from);
+            let end = write_entries(buf, HEADER_LENGTH, m, steps);
             return Ok(end);
         }
     }
     Err(SessionRefusal::NoRoom)
 }
 
-// The machine after the steps from a place on.
-fn machine_after(m: Machine, source: &[u8], from: usize) -> Machine
-    ensures { result ≡ ended m (lines_of (drop from source.now)) }
+// The machine after the steps.
+fn machine_after(m: Machine, steps: &[u8]) -> Machine
+    ensures { result ≡ ended m (lines_of steps.now) }
 {
     let mut current = m;
-    let mut start = from;
-    while start < source.len() {
-        let stepped = stepped_at(current, source, start);
-        current = stepped.machine;
-        start = next_line(source, start);
+    for line in each_line(steps) {
+        let done = stepped(current, line);
+        current = done.machine;
     }
     current
 }
@@ -258,7 +241,7 @@ fn run(
     ensures { (result ≡ run_answer m source.now from first (length buf.old)) × (buf.new ≡ run_buffer m source.now from first buf.old) }
 {
     match first_unread(source, from, first) {
-        None => write_listing(buf, m, source, from),
+        None => write_listing(buf, m, rest_from(source, from)),
         Some(line) => Err(SessionRefusal::NoEnd(EndRefusal::Line(line))),
     }
 }
@@ -271,7 +254,7 @@ fn run_end(m: Machine, source: &[u8], from: usize, first: usize) -> Ended
     match first_unread(source, from, first) {
         None => Ended {
             answer: Ok(()),
-            machine: machine_after(m, source, from),
+            machine: machine_after(m, rest_from(source, from)),
         },
         Some(line) => no_end(EndRefusal::Line(line)),
     }

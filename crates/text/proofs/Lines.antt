@@ -8,8 +8,8 @@ use native.Mathlib.Nat.{add-suc, not-suc-le-zero}
 use native.Mathlib.Numerals.{add-one}
 use native.Mathlib.Omega.{arith}
 use borrow.Author.Tests.{ltb-true, ltb-false, eqb-true}
-use lib.Dec.{ltb, eqb}
-use lib.ListN.{length, drop, length-drop, drop_of_length-le}
+use lib.Dec.{ltb, eqb, lit≤}
+use lib.ListN.{length, take, drop, length-drop, drop_of_length-le}
 use lib.Seq.{drop-drop, drop-length, take_all}
 use Rattle.lists.specs.Any.{any}
 use Rattle.lists.proofs.Tests.{or_left, or_right}
@@ -92,3 +92,29 @@ join-of-lines (x ∷ xs) = go (eqb x lf) refl (join-of-lines xs)
     go : (t : Bool) → eqb x lf ≡ t → join_lines (lines_of ended) ≡ ended → join_lines (cond t ([] ∷ lines_of ended) (on_first x (lines_of ended))) ≡ x ∷ ended
     go true e ih = rw (ih, eqb-true x lf e)
     go false e ih = rw (join-line-first x (lines_of ended) (ended_some xs), ih)
+
+-- a text's first line, and those past its LF; an empty text has none
+pub first-line : (xs : List ℕ) → 0 < length xs → lines_of xs ≡ take (stop_at lf xs) xs ∷ lines_of (drop (suc (stop_at lf xs)) xs)
+unfolding cut on_first
+first-line xs h = go (ltb (stop_at lf xs) (length xs)) refl
+  where
+    go : (t : Bool) → ltb (stop_at lf xs) (length xs) ≡ t → lines_of xs ≡ take (stop_at lf xs) xs ∷ lines_of (drop (suc (stop_at lf xs)) xs)
+    go true e = cut-first lf [] xs (ltb-true (stop_at lf xs) (length xs) e)
+    go false e =
+        let k : length xs ≤ stop_at lf xs = ltb-false (stop_at lf xs) (length xs) e in
+        let k' : length xs ≤ suc (stop_at lf xs) = omega arith in
+        rw (take_all (stop_at lf xs) xs k, drop_of_length-le xs k') (cut-last lf [] (λ y. refl) xs h k)
+
+pub no-line : (xs : List ℕ) → length xs ≡ 0 → lines_of xs ≡ []
+no-line xs h = line-end xs 0 (omega arith)
+
+-- there are no more lines than bytes
+pub lines-fewer : (xs : List ℕ) → length (lines_of xs) ≤ length xs
+unfolding cut on_first
+lines-fewer [] = lit≤ tt
+lines-fewer (x ∷ xs) = go (eqb x lf) (lines_of xs) (lines-fewer xs)
+  where
+    go : (t : Bool) (ls : List (List ℕ)) → length ls ≤ length xs → length (cond t ([] ∷ ls) (on_first x ls)) ≤ suc (length xs)
+    go true ls h = omega arith
+    go false [] h = omega arith
+    go false (l ∷ ls) h = omega arith

@@ -1,22 +1,12 @@
-use Prim.Native.Nat.{◌<◌}
-use mathlib.Core.Path.{sym, ◌∙◌}
-use native.Mathlib.Omega.{arith}
-use lib.ListN.{length}
-use Rattle.text.proofs.Lines.{next-line-further}
-use Rattle.session.proofs.Laws.{ended-turn, ended-end}
+use mathlib.Core.Path.{sym, ◌∙◌, ap}
+use Rattle.session.specs.Session.{ended}
 use Rattle.session.proofs.machine_after.Goals as goal
 
-pub loop-start-smaller : goal.loop-start-smaller
-loop-start-smaller c =
-    let further = next-line-further c.args.source.now c.loop-start.start (omega arith) in
-    omega (arith, c.next_line-start.ensures)
-
-pub loop-start-preserved : goal.loop-start-preserved
-loop-start-preserved c =
-    let text : _ = c.args.source.now in
-    let h : c.loop-start.start < length text = omega arith in
-    rw (c.next_line-start.ensures, c.stepped_at-stepped.ensures) (sym (ended-turn text c.loop-start.start c.loop-start.current h) ∙ c.loop-start.invariant)
+pub loop-line-preserved : goal.loop-line-preserved
+unfolding ended
+loop-line-preserved c =
+    rw c.stepped-done.ensures (ap (ended c.loop-line.current) (sym c.in-Some.ensures.steps) ∙ c.loop-line.invariant)
 
 pub returns : goal.returns
-returns c =
-    sym (ended-end c.args.source.now c.loop-start.start c.loop-start.current c.loop-start-test.false) ∙ c.loop-start.invariant
+unfolding ended
+returns c = ap (ended c.loop-line.current) (sym c.in-None.ensures.steps.0) ∙ c.loop-line.invariant

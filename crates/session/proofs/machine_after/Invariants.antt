@@ -1,11 +1,8 @@
-use Prim.Native.Nat.{◌-◌}
 use mathlib.Core.Path.{◌≡◌}
-use lib.ListN.{length}
-use Rattle.session.proofs.Laws.{ended_at}
+use Rattle.text.specs.Parts.{lines_of}
+use Rattle.text.specs.LineIter.{lines_left}
+use Rattle.session.specs.Session.{ended}
 use Rattle.session.proofs.machine_after.Given as goal
 
-abbrev pub invariant-loop-start : goal.invariant-loop-start
-invariant-loop-start l = ended_at l.source l.start l.current ≡ ended_at l.source l.from l.initial.current
-
-abbrev pub decreases-loop-start : goal.decreases-loop-start
-decreases-loop-start l = length l.source - l.start
+abbrev pub invariant-loop-line : goal.invariant-loop-line
+invariant-loop-line l = ended l.current (lines_left l.line-iterator) ≡ ended l.initial.current (lines_of l.steps)

@@ -3,7 +3,7 @@ use Rattle.session.proofs.run_end.Goals as goal
 
 pub returns-in-None : goal.returns-in-None
 unfolding run_end
-returns-in-None c = rw (← c.in-None.ensures, c.machine_after.ensures)
+returns-in-None c = rw (← c.in-None.ensures, c.machine_after.ensures, c.rest_from.ensures)
 
 pub returns-in-Some : goal.returns-in-Some
 unfolding run_end

@@ -1,16 +1,15 @@
-use Prim.Native.Nat.{◌+◌, ◌-◌, ◌≤◌}
+use Prim.Native.Nat.{◌+◌, ◌≤◌}
 use mathlib.Core.Path.{◌≡◌}
 use lib.ListN.{length}
 use lib.Seq.{sets}
-use Rattle.session.proofs.Laws.{entries_at}
+use Rattle.text.specs.Parts.{lines_of}
+use Rattle.text.specs.LineIter.{lines_left}
+use Rattle.session.specs.Session.{entries}
 use Rattle.session.proofs.write_entries.Given as goal
 
-abbrev pub invariant-loop-start : goal.invariant-loop-start
-invariant-loop-start l =
-    (sets l.buf l.o (entries_at l.source l.start l.k l.current) ≡ sets l.initial.buf l.at (entries_at l.source l.from 1 l.initial.current))
+abbrev pub invariant-loop-line : goal.invariant-loop-line
+invariant-loop-line l =
+    (sets l.buf l.o (entries l.k l.current (lines_left l.line-iterator)) ≡ sets l.initial.buf l.at (entries 1 l.initial.current (lines_of l.steps)))
     × (length l.buf ≡ length l.initial.buf)
-    × (l.o + length (entries_at l.source l.start l.k l.current) ≡ l.at + length (entries_at l.source l.from 1 l.initial.current))
-    × (l.k ≤ l.start + 1)
-
-abbrev pub decreases-loop-start : goal.decreases-loop-start
-decreases-loop-start l = length l.source - l.start
+    × (l.o + length (entries l.k l.current (lines_left l.line-iterator)) ≡ l.at + length (entries 1 l.initial.current (lines_of l.steps)))
+    × (l.k + length (lines_left l.line-iterator) ≤ length l.steps + 1)
