@@ -21,9 +21,8 @@ use Rattle.records.specs.Records.{is_in, record_length, records_length, records_
 use Rattle.records.specs.Rows.{Row, rows}
 use Rattle.records.proofs.ReadBack.{records-length}
 use Rattle.machine.specs.declared.Machine.{Machine}
-use Rattle.values.specs.Values.{values_of}
-use Rattle.saved.specs.Text.{newest, edition_line, own_bytes, gpe_text, records_at, gpe_at, saved_text, write_answer, written_buffer}
-use Rattle.std.specs.Prelude.{Ok, Err}
+use Rattle.saved.specs.Text.{newest, Parts, edition_line, own_bytes, own0, own1, gpe_text, text_of, records_at, gpe_at, parts_of, saved_text, write_answer, written_buffer}
+use Rattle.std.specs.Prelude.{Ok, Err, get_or}
 use Rattle.saved.specs.declared.WriteRefusal.TheVariants as refusal
 use Rattle.records.proofs.ByteLaws.{bytes-length}
 
@@ -159,41 +158,36 @@ text-length vs gpe edition =
 pub own-small : (x : ℕ) → own_bytes x ≤ 8
 own-small x = min-le_right (x / 2) 8
 
--- a machine's text is as long as its length says
-module _ (m : Machine) (own own' at n : ℕ)
-    (a : own ≡ own_bytes m.settings.gpe0.length) (b : own' ≡ own_bytes m.settings.gpe1.length) (d : at ≡ gpe_at newest)
-    (c : n ≡ at + length (gpe_text own own' m.gpe0_sts m.gpe0_en m.gpe1_sts m.gpe1_en)) where
+-- the text of parts whose blocks have 8 bytes each
+module _ (edition : ℕ) (p : Parts) (l₁ : length p.gpe0_sts ≡ 8) (l₂ : length p.gpe0_en ≡ 8) (l₃ : length p.gpe1_sts ≡ 8) (l₄ : length p.gpe1_en ≡ 8) where
+  pub parts-length : length (text_of edition p) ≡ gpe_at edition + (38 + (own0 p.values * 4 + own1 p.values * 4))
+  parts-length =
+      let h = own-small (get_or p.values 15 0) in
+      let k = own-small (get_or p.values 16 0) in
+      let long = gpe-length p.gpe0_sts p.gpe0_en p.gpe1_sts p.gpe1_en (own0 p.values) (own1 p.values) (omega arith) (omega arith) (omega arith) (omega arith) in
+      omega (arith, long, text-length p.values (gpe_text (own0 p.values) (own1 p.values) p.gpe0_sts p.gpe0_en p.gpe1_sts p.gpe1_en) edition)
+
+  pub parts-short : edition < 2 ^ 64 → length (text_of edition p) ≤ 1024
+  parts-short small = omega (arith, parts-length, gpe-at-short edition small, own-small (get_or p.values 15 0), own-small (get_or p.values 16 0))
+
+-- printed into an empty buffer, and read from it again
+pub printed-whole : (text l empty : List ℕ) (n : ℕ) → n ≡ length text → n ≤ 1024 → length empty ≡ 1024 → l ≡ sets empty 0 text → take n l ≡ text
+printed-whole text l empty n c short room e = rw (e, c) (sets-there empty 0 text (omega (arith, short, c, room)))
+
+-- a machine's text is written where it fits, and where it does not nothing is
+module _ (m : Machine) (p : Parts) (a : p ≡ parts_of m) (n : ℕ) (c : n ≡ length (text_of newest p)) where
   saved-length : length (saved_text m) ≡ n
   unfolding saved_text
-  saved-length =
-      rw (sym a, sym b)
-      (text-length (values_of m) (gpe_text own own' m.gpe0_sts m.gpe0_en m.gpe1_sts m.gpe1_en) newest ∙ rw (← d) (sym c))
+  saved-length = ap (λ (x : Parts). length (text_of newest x)) (sym a) ∙ sym c
 
-  -- where it fits it is written, and where it does not nothing is
-  pub write-fits : (buffer l vs : List ℕ) → n ≤ length buffer → vs ≡ values_of m
-      → l ≡ sets buffer 0 (edition_line newest ++ (lf ∷ (records_text newest rows vs ++ gpe_text own own' m.gpe0_sts m.gpe0_en m.gpe1_sts m.gpe1_en)))
+  pub write-fits : (buffer l : List ℕ) → n ≤ length buffer → l ≡ sets buffer 0 (text_of newest p)
       → (Ok n ≡ write_answer m (length buffer)) × (l ≡ written_buffer m buffer)
   unfolding saved_text
-  write-fits buffer l vs f v e =
+  write-fits buffer l f e =
       let fits : leb (length (saved_text m)) (length buffer) ≡ true = rw saved-length (le-leb n (length buffer) f) in
-      (rw (fits, saved-length) refl, rw fits (e ∙ simp (v, a, b)))
+      (rw (fits, saved-length) refl, rw fits (e ∙ ap (λ (x : Parts). sets buffer 0 (text_of newest x)) a))
 
   pub write-refused : (buffer : List ℕ) → length buffer < n → (Err refusal.NoRoom ≡ write_answer m (length buffer)) × (buffer ≡ written_buffer m buffer)
   write-refused buffer f =
       let none : leb (length (saved_text m)) (length buffer) ≡ false = rw saved-length (lt-leb n (length buffer) f) in
       (rw none refl, rw none refl)
-
--- a text that was printed into an empty buffer, and read from it again
-module _ (edition at own own' n : ℕ) (vs s e s' e' : List ℕ) (a : at ≡ gpe_at edition) (small : edition < 2 ^ 64) (h : own ≤ 8) (k : own' ≤ 8)
-    (l₁ : length s ≡ 8) (l₂ : length e ≡ 8) (l₃ : length s' ≡ 8) (l₄ : length e' ≡ 8) (c : n ≡ at + length (gpe_text own own' s e s' e')) where
-  pub printed-short : n ≤ 1024
-  printed-short =
-      omega (arith, gpe-at-short edition small, gpe-length s e s' e' own own' (omega arith) (omega arith) (omega arith) (omega arith))
-
-  abbrev whole : List ℕ
-  whole = edition_line edition ++ (lf ∷ (records_text edition rows vs ++ gpe_text own own' s e s' e'))
-
-  pub printed-whole : (l empty : List ℕ) → length empty ≡ 1024 → l ≡ sets empty 0 whole → take n l ≡ whole
-  printed-whole l empty room p =
-      let long : length whole ≡ n = text-length vs (gpe_text own own' s e s' e') edition ∙ rw (← a) (sym c) in
-      rw (p, ← long) (sets-there empty 0 whole (omega (arith, printed-short, long, room)))

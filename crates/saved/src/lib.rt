@@ -1,6 +1,7 @@
 // The saved text of a machine: written into a lent buffer, and read back.
 #![tactic(auto)]
 
+mod parts;
 mod print;
 mod reading;
 

@@ -2,7 +2,7 @@ use native.Mathlib.Omega.{arith}
 use Rattle.records.specs.Ascii.{ascii}
 use Rattle.text.proofs.Fewest.{at-most-20}
 use Rattle.saved.proofs.Laws.{edition-written}
-use Rattle.saved.proofs.print.put_edition.Goals as goal
+use Rattle.saved.proofs.parts.put_edition.Goals as goal
 
 pub overflow_add-digits : goal.overflow_add-digits
 overflow_add-digits c =

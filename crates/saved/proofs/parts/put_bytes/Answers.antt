@@ -4,7 +4,7 @@ use lib.ListN.{length}
 use native.Mathlib.Omega.{arith}
 use Rattle.saved.proofs.Laws.{bytes-written}
 use borrow.Author.Rules.{rules}
-use Rattle.saved.proofs.print.put_bytes.Goals as goal
+use Rattle.saved.proofs.parts.put_bytes.Goals as goal
 
 pub returns : goal.returns
 returns c =
