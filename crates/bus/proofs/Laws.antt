@@ -1,6 +1,7 @@
 -- What the tests on the way to a cell say of the offset and of what is written. Assumes nothing.
 use mathlib.Core.Bool.{Bool, true, false, cond, ◌&&◌, and-false, or-false, false≢true}
 use Rattle.std.specs.Prelude.{Option, None}
+use Rattle.std.specs.Option.{is_none}
 use mathlib.Core.Path.{◌≡◌, refl, sym, ◌∙◌, ap}
 use Prim.Native.Nat.{ℕ, ◌+◌, ◌-◌, ◌/◌, ◌%◌, ◌^◌, ◌≤◌, ◌<◌}
 use native.Mathlib.Nat.{zero-div}
@@ -123,9 +124,9 @@ module _ (m : Machine) (width offset written : ℕ) (x : Effect) where
 
     pub control-takes : x ≡ control_write m b width offset written → allowed (register.Pm1Cnt b) width offset ≡ true → Ends (register.Pm1Cnt b)
     unfolding register_write first_applying leads_nowhere is_timer command_lost names_none write_effect control_write
-    control-takes q a = q ∙ go (completes m b width offset written && eqb (named_state m b width offset written) 0) refl a
+    control-takes q a = q ∙ go (completes m b width offset written && is_none (named_state m b width offset written)) refl a
       where
-        go : (t : Bool) → (completes m b width offset written && eqb (named_state m b width offset written) 0) ≡ t → allowed (register.Pm1Cnt b) width offset ≡ true
+        go : (t : Bool) → (completes m b width offset written && is_none (named_state m b width offset written)) ≡ t → allowed (register.Pm1Cnt b) width offset ≡ true
             → cond t (unmoved (scalars_of m) (Err refusal.NoSleepState)) (done 0 (scalars_of (controlled m b width offset written)) (completing m b width offset written))
             ≡ register_write m (register.Pm1Cnt b) width offset written
         go true e a = rw (a, e) refl

@@ -58,8 +58,8 @@ fn armed_after(s: Settings, x: Scalars, b: bool, width: u32, offset: u64, writte
     pick_bool(covers_high(width, offset), arms, x.armed)
 }
 
-// The state that the pair names, or 0.
-fn named_state(s: Settings, typ_a: u8, typ_b: u8) -> u8
+// The state that the pair names, if it names one.
+fn named_state(s: Settings, typ_a: u8, typ_b: u8) -> Option<u8>
     ensures { result ≡ state_of (has_pm1b_cnt s) typ_a typ_b s.sleep.pairs }
 {
     let table = s.sleep;
@@ -105,11 +105,10 @@ pub fn write(s: Settings, x: Scalars, b: bool, width: u32, offset: u64, written:
 {
     let next = controlled(s, x, b, width, offset, written);
     if completes(s, x, b, width, offset, written) {
-        let state = named_state(s, next.slp_typ_a, next.slp_typ_b);
-        if state == 0 {
-            return model::unmoved(x, Err(StepRefusal::NoSleepState));
+        match named_state(s, next.slp_typ_a, next.slp_typ_b) {
+            Some(state) => model::done(0, next, Some(StateChange::Complete(state))),
+            None => model::unmoved(x, Err(StepRefusal::NoSleepState)),
         }
-        model::done(0, next, Some(StateChange::Complete(state)))
     } else {
         model::done(0, next, None)
     }

@@ -12,7 +12,7 @@ use Rattle.platform.specs.Blocks.{present, holds}
 use Rattle.machine.specs.Status.{has_bit}
 use Rattle.registers.specs.Registers.{in_status, in_enable, status_after, enable_after, control_in, covers_low, covers_high, written_bit}
 use Rattle.machine.specs.Lines.{awake}
-use Rattle.sleep.specs.Pairs.{absent, same_pair, named, first_from}
+use Rattle.sleep.specs.Pairs.{absent, same_pair, named, state_of}
 use Rattle.machine.specs.Sleep.{is_sleeping, wake_bits, pending, completed}
 use Rattle.model.specs.Answer.{first_applying}
 use Rattle.model.specs.Bus.{wrong_width, data_too_wide, leads_nowhere, allowed, is_timer, command_lost, read_of, write_of}
@@ -40,7 +40,7 @@ each_holds (x ∷ rs) e r (Memᴰ.tail at) = each_holds rs (and_right (row_holds
 
 -- the test over the whole list
 pub rows_pass : all_hold rows ≡ true
-unfolding all_hold steps_hold same_registers answer_at_once after_at_once answer_to first_applying awake wrong_width data_too_wide leads_nowhere allowed is_timer command_lost names_none read_of write_of sets_slp_en typ_after completes bm_rld_after register_at offset_at walk_over holds present has_bit in_status in_enable status_after enable_after control_in covers_low covers_high written_bit mask_of flag_of bit_at timed tmr_raised off_within ran_of counter_after turns_in hold_after press_of pin_of in_s5 is_sleeping armed_after gbl_rls_after completed pending wake_bits absent same_pair named first_from event_of
+unfolding all_hold steps_hold same_registers answer_at_once after_at_once answer_to first_applying awake wrong_width data_too_wide leads_nowhere allowed is_timer command_lost names_none read_of write_of sets_slp_en typ_after completes bm_rld_after register_at offset_at walk_over holds present has_bit in_status in_enable status_after enable_after control_in covers_low covers_high written_bit mask_of flag_of bit_at timed tmr_raised off_within ran_of counter_after turns_in hold_after press_of pin_of in_s5 is_sleeping armed_after gbl_rls_after completed pending wake_bits absent same_pair named state_of event_of
 rows_pass = refl
 
 -- the marked cases: what each row of the list claims of `step_of` holds

@@ -3,10 +3,11 @@
 -- Assumes nothing.
 use mathlib.Core.Bool.{Bool, true, false, not, cond, ◌&&◌, ◌||◌, or-true, false≢true}
 use mathlib.Core.List.{List, [], ◌∷◌}
-use Rattle.std.specs.Prelude.{Option, Some, None}
+use Rattle.std.specs.Prelude.{Option, Some, None, unwrap_or, option_map, position}
+use Rattle.std.proofs.lemmas.List.Quantifiers.{position-Some}
 use mathlib.Core.Path.{◌≡◌, refl, sym, ◌∙◌}
 use Prim.Native.Nat.{ℕ, suc, ◌+◌, ◌%◌, ◌^◌, ◌<◌}
-use native.Mathlib.Nat.{add-zero, mod-lt}
+use native.Mathlib.Nat.{mod-lt}
 use native.Mathlib.Omega.{arith}
 use borrow.Author.Tests.{eqb-true, not-false}
 use lib.Bits.{bit_and}
@@ -18,7 +19,7 @@ use Rattle.std.specs.declared.result.Result.TheVariants.{Ok, Err}
 use Rattle.lists.specs.Any.{any}
 use Rattle.lists.proofs.Tests.{or_left, and_left, and_right}
 use Rattle.bits.specs.Writes.{kept, taken_by, within}
-use Rattle.sleep.specs.Pairs.{absent, named, first_from, state_of}
+use Rattle.sleep.specs.Pairs.{absent, named, state_of}
 use Rattle.clock.specs.AtOnce.{off_within as overridden_in, ran_of, counter_after, hold_after, after_of}
 use Rattle.clock.specs.Clock.{counter_bits}
 use Rattle.platform.specs.Blocks.{present, no_block}
@@ -42,7 +43,7 @@ use Rattle.machine.specs.declared.sleeping.WakeSource.{WakeSource}
 use Rattle.machine.specs.declared.sleeping.WakeSource.TheVariants as source
 use Rattle.model.specs.Answer.{Refusal, first_applying}
 use Rattle.model.specs.Bus.{leads_nowhere, gpe_written, write_of}
-use Rattle.model.specs.Control.{completes, named_state, typ_after, armed_after, controlled, control_written}
+use Rattle.model.specs.Control.{completes, entered_state, typ_after, armed_after, controlled, control_written}
 use Rattle.model.specs.Events.{StatusBit, pm1, pm1_mask, source_of, event_mask, event_source, fits, fitted, raised, in_s5, press_of, release_of, signal_of, pin_wakes, pin_of, in_gpe0, in_gpe1, general_raised, general_enabled, general_of, clock_of, tmr_raised, timed, ticked_by, done_by, event_of}
 use Rattle.model.specs.Firmware.{is_acpi_enable, enables_after, sci_en_after}
 use Rattle.model.specs.EventKinds.{EventKind}
@@ -103,26 +104,26 @@ module _ (s : Settings) where
 
 -- ---- the state that a pair names
 
-first-named : (Q : ℕ → Type 0) (f : List ℕ → Bool) (d : List ℕ) (ps : List (List ℕ)) (n : ℕ) → Q 0
-    → ((i : ℕ) → f (get_or ps i d) ≡ true → Q (n + i)) → Q (first_from f n ps)
-unfolding first_from
-first-named Q f d [] n none found = none
-first-named Q f d (p ∷ ps) n none found =
-    go (f p) refl (first-named Q f d ps (n + 1) none (λ i e. let same : n + suc i ≡ n + 1 + i = omega arith in rw same at (found (suc i) e)))
-  where
-    go : (t : Bool) → f p ≡ t → Q (first_from f (n + 1) ps) → Q (cond t n (first_from f (n + 1) ps))
-    go true e more = rw add-zero at (found 0 e)
-    go false e more = more
-
 module _ (s : Settings) where
-  named-allowed : (b-control : Bool) (a b : ℕ) → state_allowed s (state_of b-control a b s.sleep.pairs) ≡ true
-  unfolding state_allowed named
+  fitting-allowed : (i : ℕ) → not (absent (get_or s.sleep.pairs (1 + i) absent_pair)) ≡ true → state_allowed s (suc i) ≡ true
+  unfolding state_allowed
+  fitting-allowed i here =
+      let same : 1 + i ≡ suc i = omega arith in
+      rw (← same, here) (or-true (eqb (1 + i) 0 || eqb (1 + i) 5))
+
+  named-allowed : (b-control : Bool) (a b : ℕ) → state_allowed s (unwrap_or (state_of b-control a b s.sleep.pairs) 0) ≡ true
+  unfolding state_allowed named state_of
   named-allowed b-control a b =
-      first-named (λ state. state_allowed s state ≡ true) (named b-control (a ∷ b ∷ [])) absent_pair (drop 1 s.sleep.pairs) 1 refl
+      go (position (named b-control (a ∷ b ∷ [])) (drop 1 s.sleep.pairs))
       (λ i e.
-      let found : not (absent (get_or (drop 1 s.sleep.pairs) i absent_pair)) ≡ true = and_left _ _ e in
-      let here : not (absent (get_or s.sleep.pairs (1 + i) absent_pair)) ≡ true = rw (get_or-drop 1 s.sleep.pairs i absent_pair) at found in
-      rw here (or-true (eqb (1 + i) 0 || eqb (1 + i) 5)))
+      let (below, passes, earlier) = position-Some (named b-control (a ∷ b ∷ [])) (drop 1 s.sleep.pairs) i absent_pair e in
+      let found : not (absent (get_or (drop 1 s.sleep.pairs) i absent_pair)) ≡ true = and_left _ _ passes in
+      rw (get_or-drop 1 s.sleep.pairs i absent_pair) at found)
+    where
+      go : (o : Option ℕ) → ((i : ℕ) → o ≡ Some i → not (absent (get_or s.sleep.pairs (1 + i) absent_pair)) ≡ true)
+          → state_allowed s (unwrap_or (option_map suc o) 0) ≡ true
+      go None here = refl
+      go (Some i) here = fitting-allowed i (here i refl)
 
 -- ---- the changes that the rules make
 
@@ -388,7 +389,7 @@ module _ (P : Machine → Type 0) (keeps : Keeps P) where
     unfolding completed awake
     control-kept b r =
         let x = controlled m b width offset written in
-        let state = named_state m b width offset written in
+        let state = entered_state m b width offset written in
         pick P (completes m b width offset written) (completed x state) x
         (λ e. woken-kept source.NotKnown (pending x state) (enter x state) (keeps.sleeps x state up (named-allowed m.settings _ _ _) (controlled-kept b r)))
         (λ e. controlled-kept b r)

@@ -21,7 +21,7 @@ use Rattle.machine.specs.declared.sleeping.WakeSource.{WakeSource}
 use Rattle.machine.specs.declared.sleeping.WakeSource.TheVariants as source
 use Rattle.registers.specs.Registers.{status_in, clearable, ones_in, in_status, placed, covered}
 use Rattle.model.specs.Bus.{write_of}
-use Rattle.model.specs.Control.{completes, named_state, controlled}
+use Rattle.model.specs.Control.{completes, entered_state, controlled}
 use Rattle.model.specs.EventKinds.{EventKind, event_kind}
 use Rattle.model.specs.EventKinds as kind
 use Rattle.model.specs.Events.{StatusBit, pm1_mask, signal_wakes, general_enabled, source_of, event_bit, event_source, raised, in_s5, press_of, signal_of, pin_wakes, pin_of, general_of, general_raised, timed, clock_after, done_by, event_of}
@@ -97,7 +97,7 @@ write-level m register.SmiCmd width offset written = refl
 write-level m (register.Pm1Evt b) width offset written = refl
 write-level m (register.Pm1Cnt b) width offset written =
     let x = controlled m b width offset written in
-    let state = named_state m b width offset written in
+    let state = entered_state m b width offset written in
     either-level (completes m b width offset written) m.wake_pin (completed x state) x (woken-level source.NotKnown (pending x state) (enter x state)) refl
 write-level m register.Pm2Cnt width offset written = refl
 write-level m register.PmTmr width offset written = refl

@@ -28,7 +28,7 @@ use Rattle.machine.specs.declared.sleeping.WakeSource.{WakeSource}
 use Rattle.machine.specs.declared.sleeping.WakeSource.TheVariants as source
 use Rattle.model.specs.Answer.{first_applying}
 use Rattle.model.specs.Bus.{gpe_written, write_of}
-use Rattle.model.specs.Control.{completes, named_state, controlled, control_written}
+use Rattle.model.specs.Control.{completes, entered_state, controlled, control_written}
 use Rattle.machine.specs.Status.{tmr_bit, pwrbtn_bit, pciexp_wake_bit, wak_bit}
 use Rattle.registers.specs.Registers.{lane_at, one_byte, placed, covered, clearable, in_status, ones_in, status_after, gpe_sts, in_gpe_status, gpe_sts_after}
 use Rattle.model.specs.Events.{StatusBit, pm1, gpe, event_bit, pm1_mask, source_of, event_source, fits, raised, in_s5, press_of, signal_wakes, signal_of, pin_wakes, pin_of, in_gpe0, in_gpe1, with_bit, general_raised, general_enabled, general_of, clock_after, tmr_raised, timed, ticked_by, done_by, event_of}
@@ -184,7 +184,7 @@ module _ (m : Machine) (h : m.pm1_sts < 2 ^ 16) where
         → Law (control_written m b width offset written) (raising (bits_if (wakes_at_once m b width offset written) wak_bit))
     unfolding completed wakes_at_once pending
     control-law b true e =
-        let state = named_state m b width offset written in
+        let state = entered_state m b width offset written in
         rw e (woken-status source.NotKnown (pending m state) (enter (controlled m b width offset written) state) ∙ only-raised 16 m.pm1_sts _ h)
     control-law b false e = rw e nothing
 
@@ -345,7 +345,7 @@ module _ (b : Bool) where
   unfolding completed
   control-bytes m c width offset written =
       let x = controlled m c width offset written in
-      let state = named_state m c width offset written in
+      let state = entered_state m c width offset written in
       bytes-if (completes m c width offset written) (completed x state) x m (woken-bytes source.NotKnown (pending x state) (enter x state)) refl
 
 -- ---- a status byte after each rule

@@ -1,6 +1,7 @@
 -- What a write to a PM1 control register does: BM_RLD, GBL_RLS, SLP_TYP, and "Sleep".
 -- Throughout, b is true for block B and false for block A.
-use Rattle.std.specs.Prelude.{Bool, true, false, not, cond, ◌&&◌, ◌||◌, ℕ, ◌/◌, ◌%◌, ◌^◌, eqb}
+use Rattle.std.specs.Prelude.{Bool, true, false, not, cond, ◌&&◌, ◌||◌, Option, unwrap_or, ℕ, ◌/◌, ◌%◌, ◌^◌}
+use Rattle.std.specs.Option.{is_none}
 use Rattle.acpi.specs.Bits.{BM_RLD, GBL_RLS, SLP_TYPx, SLP_EN}
 use Rattle.sleep.specs.Pairs.{state_of}
 use Rattle.machine.specs.declared.Machine.{Machine}
@@ -33,15 +34,19 @@ armed_after m b width offset written =
     cond (covers_high width offset) (written_bit offset written SLP_EN && (has_pm1b_cnt m.settings && not b)) m.armed
 
 -- "The pair names the state": A's latched type and B's, with what this write latches
-abbrev pub named_state : Machine → Bool → ℕ → ℕ → ℕ → ℕ
+abbrev pub named_state : Machine → Bool → ℕ → ℕ → ℕ → Option ℕ
 named_state m b width offset written =
     state_of (has_pm1b_cnt m.settings) (typ_after m b false width offset written) (typ_after m b true width offset written) m.settings.sleep.pairs
+
+-- the state that a sleep-completing write enters: where none is named it is 0, and no rule looks at it, since 27 is given first
+abbrev pub entered_state : Machine → Bool → ℕ → ℕ → ℕ → ℕ
+entered_state m b width offset written = unwrap_or (named_state m b width offset written) 0
 
 -- 27: "a sleep-completing write matches none of S1 to S5"
 unfoldable pub names_none : Machine → Register → ℕ → ℕ → ℕ → Bool
 names_none m register.SmiCmd width offset written = false
 names_none m (register.Pm1Evt b) width offset written = false
-names_none m (register.Pm1Cnt b) width offset written = completes m b width offset written && eqb (named_state m b width offset written) 0
+names_none m (register.Pm1Cnt b) width offset written = completes m b width offset written && is_none (named_state m b width offset written)
 names_none m register.Pm2Cnt width offset written = false
 names_none m register.PmTmr width offset written = false
 names_none m (register.Gpe b) width offset written = false
@@ -67,5 +72,5 @@ controlled m b width offset written =
 abbrev pub control_written : Machine → Bool → ℕ → ℕ → ℕ → Machine
 control_written m b width offset written =
     cond (completes m b width offset written)
-    (completed (controlled m b width offset written) (named_state m b width offset written))
+    (completed (controlled m b width offset written) (entered_state m b width offset written))
     (controlled m b width offset written)

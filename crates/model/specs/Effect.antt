@@ -2,6 +2,7 @@
 -- sleep state. That a step is its effect, done to the machine, is `effect-law` of `proofs/Effects.antt`.
 use Rattle.std.specs.Prelude.{Bool, true, false, Option, Some, None, cond, ◌&&◌, ◌||◌, List, ℕ, ◌-◌, ◌/◌, ◌%◌, ◌^◌, eqb, get_or, Ok, Err}
 use Rattle.std.specs.Bool.{then_some}
+use Rattle.std.specs.Option.{is_none}
 use Rattle.std.specs.Int.Bits.{bit_or}
 use Rattle.acpi.specs.Bits.{ARB_DIS}
 use Rattle.bits.specs.Writes.{cleared_by}
@@ -24,7 +25,7 @@ use Rattle.machine.specs.Status.{pciexp_wake_bit}
 use Rattle.machine.specs.Sleep.{is_sleeping}
 use Rattle.registers.specs.Registers.{status_after, enable_after, gpe_half, gpe_sts_byte, in_gpe_status}
 use Rattle.model.specs.Answer.{Answer, first_applying}
-use Rattle.model.specs.Control.{completes, named_state, controlled}
+use Rattle.model.specs.Control.{completes, named_state, entered_state, controlled}
 use Rattle.model.specs.EventKinds.{EventKind, event_kind}
 use Rattle.model.specs.EventKinds as kind
 use Rattle.model.specs.Events.{StatusBit, gpe, event_bit, pm1_mask, event_mask, event_source, source_of, raised, is_s5, in_s5, release_of, signal_wakes, pin_wakes, in_gpe0, number_in, general_enabled, clock_after, tmr_raised}
@@ -63,12 +64,12 @@ event_write m b width offset written = scalars_of (with_event m (status_after m 
 -- a sleep that the write completes
 unfoldable pub completing : Machine → Bool → ℕ → ℕ → ℕ → Option StateChange
 completing m b width offset written =
-    then_some (completes m b width offset written) (change.Complete (named_state m b width offset written))
+    then_some (completes m b width offset written) (change.Complete (entered_state m b width offset written))
 
 -- a write to a control register: 27, or what it does
 unfoldable pub control_write : Machine → Bool → ℕ → ℕ → ℕ → Effect
 control_write m b width offset written =
-    cond (completes m b width offset written && eqb (named_state m b width offset written) 0) (unmoved (scalars_of m) (Err refusal.NoSleepState))
+    cond (completes m b width offset written && is_none (named_state m b width offset written)) (unmoved (scalars_of m) (Err refusal.NoSleepState))
     (done 0 (scalars_of (controlled m b width offset written)) (completing m b width offset written))
 
 -- the block's status array, and its enable array

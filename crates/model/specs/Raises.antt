@@ -5,7 +5,7 @@ use Rattle.std.specs.Bool.{beq}
 use Rattle.std.specs.Int.Bits.{bit_and, bit_or}
 use Rattle.platform.specs.declared.settings.Settings.{Settings}
 use Rattle.machine.specs.declared.Machine.{Machine}
-use Rattle.model.specs.Control.{completes, named_state}
+use Rattle.model.specs.Control.{completes, entered_state}
 use Rattle.machine.specs.Status.{pwrbtn_bit, pciexp_wake_bit, wak_bit}
 use Rattle.registers.specs.Registers.{in_status, ones_in, in_gpe_status}
 use Rattle.model.specs.Events.{StatusBit, pm1, gpe, event_bit, pm1_mask, event_mask, in_s5, signal_wakes, pin_wakes, in_gpe0, number_in, general_enabled, clock_after, tmr_raised}
@@ -81,7 +81,7 @@ event_change m e = change_by m (event_bit e) (event_kind e)
 -- "If on completing S1 to S4 .. already set, the machine wakes in the same step."
 unfoldable pub wakes_at_once : Machine → Bool → ℕ → ℕ → ℕ → Bool
 wakes_at_once m b width offset written =
-    let state = named_state m b width offset written in
+    let state = entered_state m b width offset written in
     completes m b width offset written && (is_sleeping state && pending m state)
 
 -- "Writing one to a status bit clears it", in its home; a control write that wakes sets WAK

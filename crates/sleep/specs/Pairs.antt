@@ -1,5 +1,5 @@
 -- The pairs of sleep type values of S0 to S5, in the states' order: rule 12, and the state that a pair names. A pair p is the list of its a and b.
-use Rattle.std.specs.Prelude.{Bool, not, ◌&&◌, ◌||◌, cond, List, [], ◌∷◌, ℕ, ◌+◌, eqb, ltb, get_or, drop}
+use Rattle.std.specs.Prelude.{Bool, not, ◌&&◌, ◌||◌, Option, option_map, position, List, [], ◌∷◌, ℕ, suc, eqb, ltb, get_or, drop}
 use Rattle.lists.specs.Any.{any, any_two}
 use Rattle.sleep.specs.declared.SleepTable.{SleepTable}
 
@@ -39,11 +39,6 @@ sleep_refused b-control pairs = any out_of_range pairs || any_two (shared b-cont
 unfoldable pub named : Bool → List ℕ → List ℕ → Bool
 named b-control q p = not (absent p) && same_pair b-control p q
 
--- the place of the first that passes, counted from n; 0 where none does
-unfoldable pub first_from : (List ℕ → Bool) → ℕ → List (List ℕ) → ℕ
-first_from f n [] = 0
-first_from f n (p ∷ ps) = cond (f p) n (first_from f (n + 1) ps)
-
--- "The pair names the state", and a write may match "none of S1 to S5": the number of the state named by (a, b), or 0
-abbrev pub state_of : Bool → ℕ → ℕ → List (List ℕ) → ℕ
-state_of b-control a b pairs = first_from (named b-control (a ∷ b ∷ [])) 1 (drop 1 pairs)
+-- "The pair names the state", and a write may match "none of S1 to S5": the number of the state named by (a, b), if one is
+unfoldable pub state_of : Bool → ℕ → ℕ → List (List ℕ) → Option ℕ
+state_of b-control a b pairs = option_map suc (position (named b-control (a ∷ b ∷ [])) (drop 1 pairs))

@@ -1,7 +1,7 @@
 // The pairs of sleep type values of S0 to S5: rule 12, and the state that a pair names.
 #![tactic(auto)]
 
-ghost use Rattle.std.specs.Prelude.{◌≡◌};
+ghost use Rattle.std.specs.Prelude.{◌≡◌, [], ◌∷◌, position};
 ghost use Rattle.lists.specs.Any.{any, any_two};
 ghost use Rattle.sleep.specs.Pairs.{sleep_table, absent, out_of_range, same_pair, shared, sleep_refused, named, state_of};
 
@@ -92,16 +92,21 @@ fn named(p: [u8; 2], q: [u8; 2], b_control: bool) -> bool
     }
 }
 
-// The number, 1 to 5, of the state that the pair (a, b) names, or 0: S0's pair and absent states match nothing.
-pub fn state_of(pairs: [[u8; 2]; 6], b_control: bool, a: u8, b: u8) -> u8
+// Where the pair (a, b) stands among those of S1 to S5.
+fn place(pairs: [[u8; 2]; 6], b_control: bool, a: u8, b: u8) -> Option<usize>
+    ensures { result ≡ position (named b_control (a ∷ b ∷ [])) (drop 1 pairs) }
+{
+    pairs
+        .iter()
+        .skip(1)
+        .position(|p| named(*p, [a, b], b_control))
+}
+
+// The number, 1 to 5, of the state that the pair (a, b) names, if one is: S0's pair and absent states match nothing.
+#[tactic(auto, unfolding(crate::specs::Pairs::state_of))]
+pub fn state_of(pairs: [[u8; 2]; 6], b_control: bool, a: u8, b: u8) -> Option<u8>
     ensures { result ≡ state_of b_control a b pairs }
 {
-    let mut i = 1;
-    while i < 6 {
-        if named(pairs[i], [a, b], b_control) {
-            return i as u8;
-        }
-        i += 1;
-    }
-    0
+    let i = place(pairs, b_control, a, b)?;
+    Some(i as u8 + 1)
 }

@@ -11,7 +11,7 @@ use Rattle.bits.specs.Writes.{within}
 use Rattle.cells.specs.Cells.{flag_of, bit_at, mask_of}
 use Rattle.clock.specs.Clock.{turned, grow, overrides, tick_of}
 use Rattle.runs.specs.Items.{passing, failing, original, moved, steps_of, Every, Run, after as after_all, Throughout, Awake}
-use Rattle.sleep.specs.Pairs.{sleep_table, absent, out_of_range, same_pair, shared, named, first_from}
+use Rattle.sleep.specs.Pairs.{sleep_table, absent, out_of_range, same_pair, shared, named, state_of}
 use Rattle.platform.specs.Answer.{first_failing}
 use Rattle.platform.specs.Blocks.{block, present, holds, overlap, passes_ports}
 use Rattle.platform.specs.Rules.{hardware_reduced, wrong_block_length, wrong_gpe_length, just_one_zero, length_refused, misaligned, place_refused, overlap_refused, gpe_refused, commands_refused, homes_without_block, homes_refused, sleep_pairs_refused}
@@ -176,5 +176,5 @@ press-homes = refl
 
 -- to unfold this is to unfold what a step of the machine, and a list of them, compute with
 unfoldable pub steps-compute : Unit {0}
-unfolding any walk_over digit flag_of bit_at mask_of turned grow overrides tick_of absent same_pair named first_from present holds has_bit in_status in_enable status_after enable_after control_in covers_low covers_high written_bit awake any_enabled is_sleeping wake_bits pending completed first_applying wrong_width data_too_wide leads_nowhere allowed is_timer command_lost read_of sets_slp_en typ_after completes armed_after names_none bm_rld_after gbl_rls_after write_of in_s5 press_of signal_of pin_of in_gpe0 in_gpe1 general_raised general_enabled general_of tmr_raised timed ticked_once ticked_by turned_once turns_by event_of register_at offset_at signal_change press_change event_change rule_change raises answer_to after lives_in_b RaisedIn passing failing original moved steps_of Every Run after_all Throughout Awake
+unfolding any walk_over digit flag_of bit_at mask_of turned grow overrides tick_of absent same_pair named state_of present holds has_bit in_status in_enable status_after enable_after control_in covers_low covers_high written_bit awake any_enabled is_sleeping wake_bits pending completed first_applying wrong_width data_too_wide leads_nowhere allowed is_timer command_lost read_of sets_slp_en typ_after completes armed_after names_none bm_rld_after gbl_rls_after write_of in_s5 press_of signal_of pin_of in_gpe0 in_gpe1 general_raised general_enabled general_of tmr_raised timed ticked_once ticked_by turned_once turns_by event_of register_at offset_at signal_change press_change event_change rule_change raises answer_to after lives_in_b RaisedIn passing failing original moved steps_of Every Run after_all Throughout Awake
 steps-compute = tt

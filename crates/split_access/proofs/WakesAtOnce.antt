@@ -10,7 +10,7 @@ use Rattle.machine.specs.SetUp.{set_up_of}
 use Rattle.machine.specs.Sleep.{is_sleeping, pending, completed}
 use Rattle.machine.specs.declared.Machine.{Machine}
 use Rattle.model.specs.Bus.{write_of}
-use Rattle.model.specs.Control.{completes, named_state, controlled, control_written}
+use Rattle.model.specs.Control.{completes, entered_state, controlled, control_written}
 use Rattle.model.specs.Step.{register_of, offset_of, answer_to, accepted, done_of, after, step_of}
 use Rattle.model.specs.declared.Event.{Event}
 use Rattle.model.specs.declared.Register.{Register}
@@ -73,7 +73,7 @@ module _ (m : Machine) (z : m.state ≡ 0) where
   unfolding pending
   control-rests b width offset written =
       rests-if m (completes m b width offset written) _ _
-      (completed-rests (controlled m b width offset written) (named_state m b width offset written)) still
+      (completed-rests (controlled m b width offset written) (entered_state m b width offset written)) still
 
   write-rests : (r : Register) (width offset written : ℕ) → Rests m (write_of m r width offset written).state
   unfolding write_of

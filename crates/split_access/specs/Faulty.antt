@@ -11,7 +11,7 @@ use Rattle.registers.specs.Registers.{shown, placed, covered, in_status}
 use Rattle.machine.specs.Fields.{with_event, with_gpe_pending, enter}
 use Rattle.machine.specs.declared.Machine.{Machine}
 use Rattle.model.specs.Bus.{write_of}
-use Rattle.model.specs.Control.{completes, named_state, controlled}
+use Rattle.model.specs.Control.{completes, entered_state, controlled}
 use Rattle.model.specs.Step.{register_of, offset_of, answer_to, accepted, after, step_of}
 use Rattle.model.specs.declared.Access.{Access}
 use Rattle.model.specs.declared.Register.{Register}
@@ -80,7 +80,7 @@ sent_to_sleep m register.SmiCmd width offset written = write_of m register.SmiCm
 sent_to_sleep m (register.Pm1Evt b) width offset written = write_of m (register.Pm1Evt b) width offset written
 sent_to_sleep m (register.Pm1Cnt b) width offset written =
     cond (completes m b width offset written)
-    (enter (controlled m b width offset written) (named_state m b width offset written))
+    (enter (controlled m b width offset written) (entered_state m b width offset written))
     (controlled m b width offset written)
 sent_to_sleep m register.Pm2Cnt width offset written = write_of m register.Pm2Cnt width offset written
 sent_to_sleep m register.PmTmr width offset written = write_of m register.PmTmr width offset written

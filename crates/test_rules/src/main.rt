@@ -151,32 +151,33 @@ fn hold(out: &impl Print) {
     line(out, b"button up, hold 5: hold", up.hold as u64);
 }
 
+// 0 where the pair names none.
 fn states(out: &impl Print) {
     let pairs = [[0, 0], [255, 255], [255, 255], [5, 2], [255, 255], [7, 0]];
     line(
         out,
         b"pair (5, 2)",
-        sleep::state_of(pairs, true, 5, 2) as u64,
+        sleep::state_of(pairs, true, 5, 2).unwrap_or(0) as u64,
     );
     line(
         out,
         b"pair (5, 3)",
-        sleep::state_of(pairs, true, 5, 3) as u64,
+        sleep::state_of(pairs, true, 5, 3).unwrap_or(0) as u64,
     );
     line(
         out,
         b"pair (5, 3), B absent",
-        sleep::state_of(pairs, false, 5, 3) as u64,
+        sleep::state_of(pairs, false, 5, 3).unwrap_or(0) as u64,
     );
     line(
         out,
         b"pair (0, 0), which is S0's",
-        sleep::state_of(pairs, true, 0, 0) as u64,
+        sleep::state_of(pairs, true, 0, 0).unwrap_or(0) as u64,
     );
     line(
         out,
         b"pair (255, 255)",
-        sleep::state_of(pairs, true, 255, 255) as u64,
+        sleep::state_of(pairs, true, 255, 255).unwrap_or(0) as u64,
     );
 }
 
