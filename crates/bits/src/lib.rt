@@ -32,31 +32,7 @@ pub fn within16(mask: u16, x: u16) -> bool
     (x & mask) == x
 }
 
-pub fn pick8(c: bool, a: u8, b: u8) -> u8
-    ensures { result ≡ cond c a b }
-{
-    if c { a } else { b }
-}
-
-pub fn pick16(c: bool, a: u16, b: u16) -> u16
-    ensures { result ≡ cond c a b }
-{
-    if c { a } else { b }
-}
-
-pub fn pick32(c: bool, a: u32, b: u32) -> u32
-    ensures { result ≡ cond c a b }
-{
-    if c { a } else { b }
-}
-
-pub fn pick64(c: bool, a: u64, b: u64) -> u64
-    ensures { result ≡ cond c a b }
-{
-    if c { a } else { b }
-}
-
-pub fn pick_bool(c: bool, a: bool, b: bool) -> bool
+pub fn pick<T: Copy>(c: bool, a: T, b: T) -> T
     ensures { result ≡ cond c a b }
 {
     if c { a } else { b }
@@ -66,5 +42,5 @@ pub fn pick_bool(c: bool, a: bool, b: bool) -> bool
 pub fn past(a: u64, b: u64) -> u64
     ensures { result ≡ a - b }
 {
-    if b <= a { a - b } else { 0 }
+    a.saturating_sub(b)
 }

@@ -14,7 +14,7 @@ pub enum Legality {
 }
 
 // The clauses in the list's order, which the comments quote; request W3's stands among them, and request W7's last.
-#[derive(Clone, Copy)]
+#[derive(Clone, Copy, Debug, PartialEq, Eq)]
 pub enum Clause {
     // "settings pass rules 5 to 12": the first that refuses
     Settings(SetUpRefusal),

@@ -22,18 +22,7 @@ refusal_number refusal.SleepPairs = 12
 
 -- the demands: "A refusal carries its number from document 01 and value zero"
 abbrev pub refusal_value : SetUpRefusal → ℕ
-refusal_value refusal.TableShort = 0
-refusal_value refusal.NoSignature = 0
-refusal_value refusal.WrongLength = 0
-refusal_value refusal.WrongSum = 0
-refusal_value refusal.HardwareReduced = 0
-refusal_value refusal.BlockLength = 0
-refusal_value refusal.BlockPlace = 0
-refusal_value refusal.BlocksOverlap = 0
-refusal_value refusal.Gpe1Numbers = 0
-refusal_value refusal.SameCommands = 0
-refusal_value refusal.WrongHomes = 0
-refusal_value refusal.SleepPairs = 0
+refusal_value r = 0
 
 -- "0 is success"; a refusal has the number of its line
 abbrev pub set_up_number : SetUpAnswer → ℕ

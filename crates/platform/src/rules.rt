@@ -34,7 +34,7 @@ pub const BLOCKS: usize = 9;
 pub const GPE_LONGEST: u32 = 16;
 
 // The lines of the table of setting up, each of which refuses.
-#[derive(Clone, Copy)]
+#[derive(Clone, Copy, Debug, PartialEq, Eq)]
 pub enum SetUpRefusal {
     TableShort,
     NoSignature,
@@ -76,23 +76,11 @@ pub fn refusal_number(r: SetUpRefusal) -> u8
     }
 }
 
+// "A refusal carries its number from document 01 and value zero".
 pub fn refusal_value(r: SetUpRefusal) -> u32
     ensures { result ≡ refusal_value r }
 {
-    match r {
-        SetUpRefusal::TableShort => 0,
-        SetUpRefusal::NoSignature => 0,
-        SetUpRefusal::WrongLength => 0,
-        SetUpRefusal::WrongSum => 0,
-        SetUpRefusal::HardwareReduced => 0,
-        SetUpRefusal::BlockLength => 0,
-        SetUpRefusal::BlockPlace => 0,
-        SetUpRefusal::BlocksOverlap => 0,
-        SetUpRefusal::Gpe1Numbers => 0,
-        SetUpRefusal::SameCommands => 0,
-        SetUpRefusal::WrongHomes => 0,
-        SetUpRefusal::SleepPairs => 0,
-    }
+    0
 }
 
 pub fn number(a: SetUpAnswer) -> u8

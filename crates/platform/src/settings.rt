@@ -8,7 +8,7 @@ use cells::Column;
 use sleep::SleepTable;
 
 // The fields stand by their size, so that there is no padding between them.
-#[derive(Clone, Copy)]
+#[derive(Clone, Copy, Debug, PartialEq, Eq)]
 pub struct Settings {
     // PM1a_EVT_BLK to GPE1_BLK, with their lengths
     pub pm1a_evt: Block,
