@@ -4,7 +4,8 @@
 ghost use Rattle.std.specs.Prelude.{cond, ◌≡◌, ◌-◌};
 ghost use Rattle.bits.specs.Writes.{cleared_by, taken_by, within};
 
-// Write one to clear: a byte, and a word.
+// Write one to clear: a byte, and a word. One function over the width is no plainer: it takes a trait with the width and the laws of
+// `&` and `!`, which std's operators give as relations, and two impls.
 pub fn clear8(old: u8, byte: u8, mask: u8) -> u8
     ensures { result ≡ cleared_by 8 old byte mask }
 {

@@ -89,7 +89,8 @@ pub fn clearable(s: Settings, wake_pin: bool, b: bool) -> u16
     status_in(s, b) & !pick(wake_pin, PCIEXP_WAKE, 0)
 }
 
-// Writing one to a status bit clears it; writing zero keeps it. At the status half's first byte, and at its second.
+// Writing one to a status bit clears it; writing zero keeps it. At the status half's first byte, and at its second: the bus's one match
+// on the offset has chosen the byte, so that no rule tests the place again.
 pub fn status_low(sts: u16, mask: u16, width: u32, written: u32) -> u16
     ensures { result ≡ cleared_by 16 sts (placed 0 written) (bit_and mask (covered width 0)) }
 {
@@ -145,8 +146,7 @@ pub fn control_in(s: Settings, b: bool, bit: u8) -> bool
 pub fn has_pm1b_cnt(s: Settings) -> bool
     ensures { result ≡ has_pm1b_cnt s }
 {
-    let cnt_b = s.pm1b_cnt;
-    platform::is_present(cnt_b)
+    platform::is_present(s.pm1b_cnt)
 }
 
 fn slp_typ(x: Scalars, b: bool) -> u8
@@ -196,9 +196,7 @@ pub fn written_bit(offset: u64, written: u32, n: u8) -> bool
 fn gpe_half(s: Settings, b: bool) -> u32
     ensures { result ≡ gpe_half s b }
 {
-    let gpe0 = s.gpe0;
-    let gpe1 = s.gpe1;
-    pick(b, gpe1.length, gpe0.length) / 2
+    pick(b, s.gpe1.length, s.gpe0.length) / 2
 }
 
 pub fn in_gpe_status(s: Settings, b: bool, offset: u64) -> bool
