@@ -2,7 +2,7 @@
 ghost use Rattle.std.specs.Prelude.{◌≡◌};
 ghost use Rattle.model.specs.Bus.{wrong_width, data_too_wide, leads_nowhere, allowed};
 
-use bits::pick64;
+use bits::pick;
 use model::Register;
 
 // 21: the width is not 1, 2 or 4.
@@ -16,7 +16,7 @@ pub fn wrong_width(width: u32) -> bool
 pub fn data_too_wide(width: u32, written: u64) -> bool
     ensures { result ≡ data_too_wide width written }
 {
-    let limit = pick64(width == 1, 0x100, pick64(width == 2, 0x10000, 0x100000000));
+    let limit = pick(width == 1, 0x100, pick(width == 2, 0x10000, 0x100000000));
     !(written < limit)
 }
 
@@ -25,15 +25,7 @@ pub fn data_too_wide(width: u32, written: u64) -> bool
 pub fn leads_nowhere(r: Register) -> bool
     ensures { result ≡ leads_nowhere r }
 {
-    match r {
-        Register::SmiCmd => false,
-        Register::Pm1Evt(_) => false,
-        Register::Pm1Cnt(_) => false,
-        Register::Pm2Cnt => false,
-        Register::PmTmr => false,
-        Register::Gpe(_) => false,
-        Register::Nowhere => true,
-    }
+    matches!(r, Register::Nowhere)
 }
 
 // 24 is where this is false: one byte, a PM1 register also whole, the timer only whole.

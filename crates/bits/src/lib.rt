@@ -4,7 +4,8 @@
 ghost use Rattle.std.specs.Prelude.{cond, ◌≡◌, ◌-◌};
 ghost use Rattle.bits.specs.Writes.{cleared_by, taken_by, within};
 
-// Write one to clear: a byte, and a word.
+// Write one to clear: a byte, and a word. One function over the width is no plainer: it takes a trait with the width and the laws of
+// `&` and `!`, which std's operators give as relations, and two impls.
 pub fn clear8(old: u8, byte: u8, mask: u8) -> u8
     ensures { result ≡ cleared_by 8 old byte mask }
 {
@@ -32,31 +33,7 @@ pub fn within16(mask: u16, x: u16) -> bool
     (x & mask) == x
 }
 
-pub fn pick8(c: bool, a: u8, b: u8) -> u8
-    ensures { result ≡ cond c a b }
-{
-    if c { a } else { b }
-}
-
-pub fn pick16(c: bool, a: u16, b: u16) -> u16
-    ensures { result ≡ cond c a b }
-{
-    if c { a } else { b }
-}
-
-pub fn pick32(c: bool, a: u32, b: u32) -> u32
-    ensures { result ≡ cond c a b }
-{
-    if c { a } else { b }
-}
-
-pub fn pick64(c: bool, a: u64, b: u64) -> u64
-    ensures { result ≡ cond c a b }
-{
-    if c { a } else { b }
-}
-
-pub fn pick_bool(c: bool, a: bool, b: bool) -> bool
+pub fn pick<T: Copy>(c: bool, a: T, b: T) -> T
     ensures { result ≡ cond c a b }
 {
     if c { a } else { b }
@@ -66,5 +43,5 @@ pub fn pick_bool(c: bool, a: bool, b: bool) -> bool
 pub fn past(a: u64, b: u64) -> u64
     ensures { result ≡ a - b }
 {
-    if b <= a { a - b } else { 0 }
+    a.saturating_sub(b)
 }

@@ -10,7 +10,7 @@ ghost use Rattle.model.specs.Bus.{allowed, read_of};
 ghost use Rattle.model.specs.Effect.{sts_array, en_array, sts_byte, en_byte, gpe_write, event_write, register_write};
 
 use acpi::ARB_DIS;
-use bits::{pick32, pick64};
+use bits::pick;
 use machine::{GpeArray, GpeStore, Machine, Scalars};
 use model::{Effect, Register, StepRefusal};
 use platform::Settings;
@@ -21,7 +21,7 @@ fn gpe_number(s: Settings, b: bool, offset: u64) -> u64
     ensures { result ≡ gpe_number s b offset }
 {
     let past = registers::past_status(s, b, offset);
-    pick64(
+    pick(
         registers::in_gpe_status(s, b, offset),
         offset % 256,
         256 + past % 256,
@@ -32,7 +32,7 @@ fn gpe_number(s: Settings, b: bool, offset: u64) -> u64
 fn timer_register(s: Settings, counter: u32) -> u32
     ensures { result ≡ counter % 2 ^ counter_bits (wide_timer s) }
 {
-    pick32(platform::wide_timer(s), counter, counter % 0x1000000)
+    pick(platform::wide_timer(s), counter, counter % 0x1000000)
 }
 
 pub(crate) fn read_cells(m: Machine, r: Register, width: u32, offset: u64) -> u32
@@ -60,7 +60,7 @@ pub(crate) fn read_cells(m: Machine, r: Register, width: u32, offset: u64) -> u3
                 _ => 0,
             }
         }
-        Register::Pm2Cnt => pick32(m.arb_dis, ARB_DIS_SET, 0),
+        Register::Pm2Cnt => pick(m.arb_dis, ARB_DIS_SET, 0),
         Register::PmTmr => timer_register(s, m.counter),
         Register::Gpe(b) => {
             let number = gpe_number(s, b, offset);

@@ -8,9 +8,9 @@ use acpi::{
     BM_STS, FIX_RTC, GBL_STS, PCI_EXP_WAK, PCIEXP_WAKE_STS, PWR_BUTTON, PWRBTN_STS, RTC_STS,
     SLP_BUTTON, SLPBTN_STS, TMR_STS, WAK_STS,
 };
-use bits::pick16;
+use bits::pick;
 
-#[derive(Clone, Copy)]
+#[derive(Clone, Copy, Debug, PartialEq, Eq)]
 pub enum Status {
     Tmr,
     Bm,
@@ -22,14 +22,14 @@ pub enum Status {
     Wak,
 }
 
-#[derive(Clone, Copy)]
+#[derive(Clone, Copy, Debug, PartialEq, Eq)]
 pub enum Enable {
     No,
     Yes,
     Disable,
 }
 
-#[derive(Clone, Copy)]
+#[derive(Clone, Copy, Debug, PartialEq, Eq)]
 pub enum Fitted {
     Always,
     TimerPresent,
@@ -37,7 +37,7 @@ pub enum Fitted {
     FlagSet(u8),
 }
 
-#[derive(Clone, Copy)]
+#[derive(Clone, Copy, Debug, PartialEq, Eq)]
 pub struct Cell {
     pub bit: u8,
     pub status: Status,
@@ -97,7 +97,7 @@ const CELLS: [Cell; 8] = [
 ];
 
 // Whose bits a mask holds.
-#[derive(Clone, Copy)]
+#[derive(Clone, Copy, Debug, PartialEq, Eq)]
 pub enum Column {
     // the eight of the table, fitted or not: C731 hex
     Known,
@@ -124,7 +124,7 @@ fn cell_bit(of: Column, flags: u32, timer: bool, c: Cell) -> u16
     ensures { result ≡ cell_bit of flags timer c }
 {
     let bit = c.bit;
-    pick16(is_in(of, flags, timer, c), bit_at(bit), 0)
+    pick(is_in(of, flags, timer, c), bit_at(bit), 0)
 }
 
 fn is_in(of: Column, flags: u32, timer: bool, c: Cell) -> bool
@@ -154,21 +154,13 @@ fn is_fitted(f: Fitted, flags: u32, timer: bool) -> bool
 fn has_enable(e: Enable) -> bool
     ensures { result ≡ has_enable e }
 {
-    match e {
-        Enable::No => false,
-        Enable::Yes => true,
-        Enable::Disable => true,
-    }
+    !matches!(e, Enable::No)
 }
 
 fn is_event(e: Enable) -> bool
     ensures { result ≡ is_event e }
 {
-    match e {
-        Enable::No => false,
-        Enable::Yes => true,
-        Enable::Disable => false,
-    }
+    matches!(e, Enable::Yes)
 }
 
 // Flag n of the FADT's flags; there are 32.

@@ -1,7 +1,7 @@
 // The PM timer's counter, the turns of its top bit and the power button's hold, n ticks at once.
 #![tactic(auto)]
 
-ghost use Rattle.std.specs.Prelude.{◌≡◌, ◌^◌, min};
+ghost use Rattle.std.specs.Prelude.{◌≡◌, ◌^◌};
 ghost use Rattle.clock.specs.Clock.{counter_bits, ticks_of, start_of};
 ghost use Rattle.clock.specs.AtOnce.{off_within, ran_of, counter_after, turns_in, hold_after};
 
@@ -9,7 +9,7 @@ ghost use Rattle.clock.specs.AtOnce.{off_within, ran_of, counter_after, turns_in
 pub const HOLD_LIMIT: u64 = 14318180;
 
 // The timer and the power button's hold as n ticks leave them.
-#[derive(Clone, Copy)]
+#[derive(Clone, Copy, Debug, PartialEq, Eq)]
 pub struct Clock {
     // PM_TMR, of 24 or 32 bits
     pub counter: u32,
@@ -19,12 +19,6 @@ pub struct Clock {
     pub hold: u32,
     // the power button override has put the machine into S5
     pub off: bool,
-}
-
-fn least(a: u64, b: u64) -> u64
-    ensures { result ≡ min a b }
-{
-    if a < b { a } else { b }
 }
 
 fn size(wide: bool) -> u64
@@ -82,7 +76,7 @@ fn hold_after(down: bool, hold: u32, n: u32) -> u32
 {
     let from = hold as u64;
     if down & (from < HOLD_LIMIT) {
-        least(HOLD_LIMIT, from + (n as u64)) as u32
+        HOLD_LIMIT.min(from + (n as u64)) as u32
     } else {
         hold
     }

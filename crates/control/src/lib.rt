@@ -10,7 +10,7 @@ ghost use Rattle.model.specs.Control.{sets_slp_en, written_typ, typ_after, compl
 ghost use Rattle.model.specs.Effect.{control_write};
 
 use acpi::{BM_RLD, GBL_RLS, SLP_EN, SLP_TYPx};
-use bits::{pick_bool, pick8};
+use bits::pick;
 use machine::{Scalars, StateChange};
 use model::{Effect, StepRefusal};
 use platform::Settings;
@@ -39,23 +39,23 @@ fn typ_after(x: Scalars, b: bool, of_b: bool, width: u32, offset: u64, written: 
     let high = covers_high(width, offset);
     let typ = written_typ(offset, written);
     if of_b {
-        pick8(b & high, typ, x.slp_typ_b)
+        pick(b & high, typ, x.slp_typ_b)
     } else {
-        pick8(!b & high, typ, x.slp_typ_a)
+        pick(!b & high, typ, x.slp_typ_a)
     }
 }
 
 fn completes(s: Settings, x: Scalars, b: bool, width: u32, offset: u64, written: u32) -> bool
     ensures { result ≡ completes (bare s x) b width offset written }
 {
-    sets_slp_en(width, offset, written) & pick_bool(has_pm1b_cnt(s), b & x.armed, !b)
+    sets_slp_en(width, offset, written) & pick(has_pm1b_cnt(s), b & x.armed, !b)
 }
 
 fn armed_after(s: Settings, x: Scalars, b: bool, width: u32, offset: u64, written: u32) -> bool
     ensures { result ≡ armed_after (bare s x) b width offset written }
 {
     let arms = written_bit(offset, written, SLP_EN) & (has_pm1b_cnt(s) & !b);
-    pick_bool(covers_high(width, offset), arms, x.armed)
+    pick(covers_high(width, offset), arms, x.armed)
 }
 
 // The state that the pair names, if it names one.
@@ -71,7 +71,7 @@ fn bm_rld_after(s: Settings, x: Scalars, b: bool, offset: u64, written: u32) -> 
     ensures { result ≡ bm_rld_after (bare s x) b offset written }
 {
     let taken = covers_low(offset) & control_in(s, b, BM_RLD);
-    pick_bool(taken, written_bit(offset, written, BM_RLD), x.bm_rld)
+    pick(taken, written_bit(offset, written, BM_RLD), x.bm_rld)
 }
 
 fn gbl_rls_after(s: Settings, x: Scalars, b: bool, offset: u64, written: u32) -> bool

@@ -11,7 +11,7 @@ ghost use Rattle.model.specs.Events.{pm1, event_bit, fits, raised, is_s5, releas
 ghost use Rattle.model.specs.declared.Event.TheVariants as event;
 
 use acpi::{PCIEXP_WAKE_STS, PWRBTN_STS};
-use bits::pick16;
+use bits::pick;
 use machine::{
     PCIEXP_WAKE, PWRBTN, Scalars, StateChange, WakeSource, awake, has_bit, is_sleeping, wake_bits,
 };
@@ -155,7 +155,7 @@ fn pinned(x: Scalars, active: bool, wakes: bool) -> Scalars
 {
     let mut next = x.copied();
     next.wake_pin = active;
-    next.pm1_sts = x.pm1_sts | pick16(wakes, PCIEXP_WAKE, 0);
+    next.pm1_sts = x.pm1_sts | pick(wakes, PCIEXP_WAKE, 0);
     next
 }
 

@@ -8,7 +8,7 @@ ghost use Rattle.model.specs.Events.{event_bit, raised, tmr_raised};
 ghost use Rattle.model.specs.declared.Event.TheVariants as event;
 
 use crate::buttons::fits;
-use bits::pick16;
+use bits::pick;
 use clock::Clock;
 use machine::{Scalars, StateChange, TMR, awake};
 use model::Effect;
@@ -17,7 +17,7 @@ use platform::Settings;
 fn tmr_raised(s: Settings, turns: u32) -> u16
     ensures { result ≡ tmr_raised s turns }
 {
-    pick16(fits(s, TMR) & (turns != 0), TMR, 0)
+    pick(fits(s, TMR) & (turns != 0), TMR, 0)
 }
 
 // The scalars with a clock's counter, hold and turns.

@@ -1,7 +1,7 @@
 // The FADT's bytes: rules 1 to 4 of setting up, and the settings read from them.
 #![tactic(auto)]
 
-ghost use Rattle.std.specs.Prelude.{◌≡◌, ◌+◌, ◌*◌, ◌%◌, take, if◌then◌else◌, slice_index};
+ghost use Rattle.std.specs.Prelude.{◌≡◌, ◌+◌, ◌*◌, ◌%◌, take, slice_index};
 ghost use Rattle.platform.specs.Answer.{first_failing};
 ghost use Rattle.fadt.specs.Table.{
   sum,
@@ -100,7 +100,7 @@ fn byte_at(table: &[u8], at: u8) -> u8
 fn joined(b0: u8, b1: u8, b2: u8, b3: u8) -> u32
     ensures { result ≡ b0 + 256 * b1 + 65536 * b2 + 16777216 * b3 }
 {
-    b0 as u32 + 256 * (b1 as u32) + 65536 * (b2 as u32) + 16777216 * (b3 as u32)
+    u32::from_le_bytes([b0, b1, b2, b3])
 }
 
 // The four bytes from a place on; within the table they are read at once.
@@ -186,11 +186,5 @@ fn pm1_block(table: &[u8], address: u8, length: u8) -> Block
 {
     let first = dword_at(table, address) as u64;
     let n = byte_at(table, length) as u32;
-    Block::new(first, length_if(first != 0, n))
-}
-
-fn length_if(present: bool, n: u32) -> u32
-    ensures { result ≡ (if present then n else 0) }
-{
-    if present { n } else { 0 }
+    Block::new(first, bits::pick(first != 0, n, 0))
 }

@@ -41,40 +41,25 @@ fn bytes_legal(own: u32, bytes: [u8; GPE_BYTES]) -> bool
     !any_set(bytes, own as usize)
 }
 
-fn gpe0_legal(m: Machine) -> bool
-    ensures { result ≡ gpe_legal m false }
+fn block_legal(own: u32, sts: [u8; GPE_BYTES], en: [u8; GPE_BYTES]) -> bool
+    ensures { result ≡ (bytes_legal own sts && bytes_legal own en) }
 {
-    let s = m.settings;
-    let gpe0 = s.gpe0;
-    let sts = m.gpe0_sts;
-    let en = m.gpe0_en;
-    let own = gpe0.length / 2;
-    bytes_legal(own, sts) & bytes_legal(own, en)
-}
-
-fn gpe1_legal(m: Machine) -> bool
-    ensures { result ≡ gpe_legal m true }
-{
-    let s = m.settings;
-    let gpe1 = s.gpe1;
-    let sts = m.gpe1_sts;
-    let en = m.gpe1_en;
-    let own = gpe1.length / 2;
     bytes_legal(own, sts) & bytes_legal(own, en)
 }
 
 fn gpe_legal(m: Machine) -> bool
     ensures { result ≡ (gpe_legal m false && gpe_legal m true) }
 {
-    gpe0_legal(m) & gpe1_legal(m)
+    let s = m.settings;
+    block_legal(s.gpe0.length / 2, m.gpe0_sts, m.gpe0_en)
+        & block_legal(s.gpe1.length / 2, m.gpe1_sts, m.gpe1_en)
 }
 
 fn arb_dis_legal(m: Machine) -> bool
     ensures { result ≡ arb_dis_legal m }
 {
     let s = m.settings;
-    let pm2 = s.pm2_cnt;
-    !m.arb_dis | is_present(pm2)
+    !m.arb_dis | is_present(s.pm2_cnt)
 }
 
 fn state_allowed(pairs: [[u8; 2]; 6], state: u8) -> bool
@@ -94,13 +79,10 @@ fn state_allowed(pairs: [[u8; 2]; 6], state: u8) -> bool
 fn state_legal(m: Machine) -> bool
     ensures { result ≡ state_legal m }
 {
-    let s = m.settings;
-    let table = s.sleep;
-    state_allowed(table.pairs(), m.state)
+    state_allowed(m.settings.sleep.pairs(), m.state)
 }
 
-// A counter of 32 bits has no size to pass.
-// A counter of 32 bits, wide, or of 24 is below its size.
+// A counter of 32 bits, wide, or of 24 is below its size; one of 32 has no size to pass.
 fn counter_fits(wide: bool, counter: u32) -> bool
     ensures { result ≡ ltb counter (2 ^ counter_bits wide) }
 {
@@ -110,8 +92,7 @@ fn counter_fits(wide: bool, counter: u32) -> bool
 fn counter_legal(m: Machine) -> bool
     ensures { result ≡ counter_legal m }
 {
-    let s = m.settings;
-    counter_fits(platform::wide_timer(s), m.counter)
+    counter_fits(platform::wide_timer(m.settings), m.counter)
 }
 
 const HOLD: u32 = HOLD_LIMIT as u32;
@@ -182,10 +163,8 @@ fn one_value(m: Machine) -> bool
     ensures { result ≡ one_value m }
 {
     let s = m.settings;
-    let evt_b = s.pm1b_evt;
-    let cnt_b = s.pm1b_cnt;
-    !stray_length(evt_b)
-        & !stray_length(cnt_b)
+    !stray_length(s.pm1b_evt)
+        & !stray_length(s.pm1b_cnt)
         & command_byte_legal(m.command_waits, m.command)
         & slp_typs_legal(m)
 }

@@ -7,7 +7,7 @@ ghost use Rattle.text.specs.Numbers.{digits, digit_count};
 ghost use Rattle.text.specs.Parts.{tab, lf};
 ghost use Rattle.listing.specs.Entry.{header, decimal, flag, state_digit, state_text, tail, entry_of, text_of, entry, entry_length, put_at};
 
-use bits::pick64;
+use bits::pick;
 use machine::Machine;
 use model::Answer;
 use text::{decimal_digits, write_byte, write_decimal, write_hex};
@@ -40,7 +40,7 @@ fn put_flag(buf: &mut [u8], at: usize, up: bool)
     requires { at + 1 < 2 ^ 64 }
     ensures { buf.new ≡ sets buf.old at (flag up ++ (tab ∷ [])) }
 {
-    write_decimal(buf, at, pick64(up, 1, 0), 1);
+    write_decimal(buf, at, pick(up, 1, 0), 1);
     write_byte(buf, at + 1, TAB);
 }
 

@@ -8,7 +8,7 @@ use crate::gpe::GpeStore;
 use crate::sleeping::StateChange;
 
 // A step is worked out on these and stored once, so that no way through it copies settings or bytes. The fields are those of Machine.
-#[derive(Clone, Copy)]
+#[derive(Clone, Copy, Debug, PartialEq, Eq)]
 pub struct Scalars {
     pub sci_en: bool,
     pub bm_rld: bool,

@@ -9,11 +9,11 @@ use crate::gpe::GPE_BYTES;
 use crate::scalars::Scalars;
 use crate::status::{PWRBTN, RTC, SLPBTN, WAK, has_bit};
 use acpi::RTC_S4;
-use bits::{pick8, pick16};
+use bits::pick;
 use platform::Settings;
 
 // What wakes a machine: a PM1 status bit by its number, a general event by its own, or not known which of several.
-#[derive(Clone, Copy)]
+#[derive(Clone, Copy, Debug, PartialEq, Eq)]
 pub enum WakeSource {
     Pm1(u8),
     Gpe(u32),
@@ -32,7 +32,7 @@ pub fn wake_bits(settings: Settings, state: u8) -> u16
     ensures { result ≡ wake_bits settings state }
 {
     let rtc = (state != 4) | cells::flag(settings.flags, RTC_S4);
-    pick16(rtc, PWRBTN + SLPBTN + RTC, PWRBTN + SLPBTN)
+    pick(rtc, PWRBTN + SLPBTN + RTC, PWRBTN + SLPBTN)
 }
 
 // Whether an enabled bit that wakes the state, or an enabled GPE, is already set.
@@ -79,8 +79,8 @@ impl Machine {
     {
         let settings = self.settings;
         let wakes = is_sleeping(state) & pending(settings, self.scalars(), state);
-        let sts = pick16(wakes, self.pm1_sts | WAK, self.pm1_sts);
-        self.enter(sts, pick8(wakes, 0, state))
+        let sts = pick(wakes, self.pm1_sts | WAK, self.pm1_sts);
+        self.enter(sts, pick(wakes, 0, state))
     }
 
     // A press in S5: cells, BM_RLD, SLP_TYP, PM2, release flag and command zero; SCI_EN as at power-on; the counter and the wake pin are kept.

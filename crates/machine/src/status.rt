@@ -26,6 +26,7 @@ pub fn has_bit(mask: u16, bit: u16) -> bool
     (mask & bit) != 0
 }
 
+// A byte's, apart for the reason of bits::clear8.
 pub fn has_bit8(mask: u8, bit: u8) -> bool
     ensures { result ≡ has_bit mask bit }
 {

@@ -6,7 +6,7 @@ ghost use Rattle.platform.specs.Blocks.{block, present, holds, overlap, passes_p
 pub const PORTS: u64 = 65536;
 
 // Its first port and how many it has; absent where the address is zero. A length of 32 bits: padding of 7 bytes makes each copy dear.
-#[derive(Clone, Copy)]
+#[derive(Clone, Copy, Debug, PartialEq, Eq)]
 pub struct Block {
     pub address: u64,
     pub length: u32,
@@ -22,7 +22,7 @@ impl Block {
 }
 
 // SMI_CMD and the blocks, by the names of their FADT address fields and in the FADT's order.
-#[derive(Clone, Copy)]
+#[derive(Clone, Copy, Debug, PartialEq, Eq)]
 pub enum FadtBlock {
     SmiCmd,
     Pm1aEvtBlk,

@@ -56,6 +56,7 @@ pub fn refusal_number(r: SetUpRefusal) -> u8
     r as u8
 }
 
+// "A refusal carries its number from document 01 and value zero".
 pub fn refusal_value(r: SetUpRefusal) -> u32
     ensures { result ≡ refusal_value r }
 {
@@ -117,15 +118,9 @@ pub fn blocks(s: Settings) -> [Block; BLOCKS]
     ensures { result ≡ blocks_of s }
 {
     let smi = Block::new(s.smi_cmd, 1);
-    let evt_a = s.pm1a_evt;
-    let evt_b = s.pm1b_evt;
-    let cnt_a = s.pm1a_cnt;
-    let cnt_b = s.pm1b_cnt;
-    let pm2 = s.pm2_cnt;
-    let tmr = s.pm_tmr;
-    let gpe0 = s.gpe0;
-    let gpe1 = s.gpe1;
-    [smi, evt_a, evt_b, cnt_a, cnt_b, pm2, tmr, gpe0, gpe1]
+    [
+        smi, s.pm1a_evt, s.pm1b_evt, s.pm1a_cnt, s.pm1b_cnt, s.pm2_cnt, s.pm_tmr, s.gpe0, s.gpe1,
+    ]
 }
 
 fn hardware_reduced(s: Settings) -> bool
@@ -155,26 +150,18 @@ fn just_one_zero(b: Block) -> bool
 fn length_refused(s: Settings) -> bool
     ensures { result ≡ length_refused s }
 {
-    let evt_a = s.pm1a_evt;
-    let evt_b = s.pm1b_evt;
-    let cnt_a = s.pm1a_cnt;
-    let cnt_b = s.pm1b_cnt;
-    let pm2 = s.pm2_cnt;
-    let tmr = s.pm_tmr;
-    let gpe0 = s.gpe0;
-    let gpe1 = s.gpe1;
-    wrong_block_length(4, evt_a)
-        | wrong_block_length(4, evt_b)
-        | wrong_block_length(2, cnt_a)
-        | wrong_block_length(2, cnt_b)
-        | wrong_block_length(1, pm2)
-        | wrong_block_length(4, tmr)
-        | wrong_gpe_length(gpe0)
-        | wrong_gpe_length(gpe1)
-        | just_one_zero(pm2)
-        | just_one_zero(tmr)
-        | just_one_zero(gpe0)
-        | just_one_zero(gpe1)
+    wrong_block_length(4, s.pm1a_evt)
+        | wrong_block_length(4, s.pm1b_evt)
+        | wrong_block_length(2, s.pm1a_cnt)
+        | wrong_block_length(2, s.pm1b_cnt)
+        | wrong_block_length(1, s.pm2_cnt)
+        | wrong_block_length(4, s.pm_tmr)
+        | wrong_gpe_length(s.gpe0)
+        | wrong_gpe_length(s.gpe1)
+        | just_one_zero(s.pm2_cnt)
+        | just_one_zero(s.pm_tmr)
+        | just_one_zero(s.gpe0)
+        | just_one_zero(s.gpe1)
 }
 
 fn misaligned(n: u64, b: Block) -> bool
@@ -193,18 +180,13 @@ fn any_passes_ports(bs: [Block; BLOCKS]) -> bool
 fn place_refused(s: Settings) -> bool
     ensures { result ≡ place_refused s }
 {
-    let evt_a = s.pm1a_evt;
-    let evt_b = s.pm1b_evt;
-    let cnt_a = s.pm1a_cnt;
-    let cnt_b = s.pm1b_cnt;
-    let tmr = s.pm_tmr;
-    !is_present(evt_a)
-        | !is_present(cnt_a)
-        | misaligned(4, evt_a)
-        | misaligned(4, evt_b)
-        | misaligned(4, tmr)
-        | misaligned(2, cnt_a)
-        | misaligned(2, cnt_b)
+    !is_present(s.pm1a_evt)
+        | !is_present(s.pm1a_cnt)
+        | misaligned(4, s.pm1a_evt)
+        | misaligned(4, s.pm1b_evt)
+        | misaligned(4, s.pm_tmr)
+        | misaligned(2, s.pm1a_cnt)
+        | misaligned(2, s.pm1b_cnt)
         | any_passes_ports(blocks(s))
 }
 
@@ -241,9 +223,7 @@ fn numbers_refused(base: u8, gpe0: Block, gpe1: Block) -> bool
 fn gpe_refused(s: Settings) -> bool
     ensures { result ≡ gpe_refused s }
 {
-    let gpe0 = s.gpe0;
-    let gpe1 = s.gpe1;
-    is_present(gpe1) & numbers_refused(s.gpe1_base, gpe0, gpe1)
+    is_present(s.gpe1) & numbers_refused(s.gpe1_base, s.gpe0, s.gpe1)
 }
 
 fn commands_refused(s: Settings) -> bool
@@ -264,20 +244,15 @@ const HOME_BITS: u16 = (1 << SCI_EN) + (1 << BM_RLD) + (1 << GBL_RLS);
 fn homes_refused(s: Settings) -> bool
     ensures { result ≡ homes_refused s }
 {
-    let evt_b = s.pm1b_evt;
-    let cnt_b = s.pm1b_cnt;
     let known = cells::mask(Column::Known, 0, false);
     !bits::within16(known, s.event_homes)
         | !bits::within16(HOME_BITS, s.control_homes)
-        | homes_without_block(evt_b, s.event_homes)
-        | homes_without_block(cnt_b, s.control_homes)
+        | homes_without_block(s.pm1b_evt, s.event_homes)
+        | homes_without_block(s.pm1b_cnt, s.control_homes)
 }
 
 fn sleep_pairs_refused(s: Settings) -> bool
     ensures { result ≡ sleep_pairs_refused s }
 {
-    let cnt_b = s.pm1b_cnt;
-    let table = s.sleep;
-    let pairs = table.pairs();
-    sleep::refused(pairs, is_present(cnt_b))
+    sleep::refused(s.sleep.pairs(), is_present(s.pm1b_cnt))
 }

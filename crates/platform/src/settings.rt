@@ -20,7 +20,7 @@ pub struct Host {
 }
 
 // The fields stand by their size, so that there is no padding between them.
-#[derive(Clone, Copy)]
+#[derive(Clone, Copy, Debug, PartialEq, Eq)]
 pub struct Settings {
     // PM1a_EVT_BLK to GPE1_BLK, with their lengths
     pub pm1a_evt: Block,
@@ -50,16 +50,14 @@ pub struct Settings {
 pub fn status_cells(s: Settings) -> u16
     ensures { result ≡ status_cells s }
 {
-    let tmr = s.pm_tmr;
-    cells::mask(Column::Status, s.flags, is_present(tmr))
+    cells::mask(Column::Status, s.flags, is_present(s.pm_tmr))
 }
 
 // The fitted enable cells.
 pub fn enable_cells(s: Settings) -> u16
     ensures { result ≡ enable_cells s }
 {
-    let tmr = s.pm_tmr;
-    cells::mask(Column::Enable, s.flags, is_present(tmr))
+    cells::mask(Column::Enable, s.flags, is_present(s.pm_tmr))
 }
 
 // Whether the timer has 32 bits, and not 24.

@@ -11,7 +11,7 @@ ghost use Rattle.machine.specs.Scalars.{bare};
 ghost use Rattle.registers.specs.Registers.{homes_in, status_in, enable_in, shown, covered, placed, control_in, has_pm1b_cnt, slp_typ, control_register, covers_low, covers_high, written_bit, gpe_half, in_gpe_status};
 
 use acpi::{BM_RLD, SCI_EN, SLP_TYPx};
-use bits::{pick8, pick16, pick32};
+use bits::pick;
 use machine::{GPE_BYTES, PCIEXP_WAKE, Scalars, has_bit};
 use platform::Settings;
 
@@ -19,7 +19,7 @@ use platform::Settings;
 fn homes_in(homes: u16, b: bool) -> u16
     ensures { result ≡ homes_in homes b }
 {
-    pick16(b, homes, !homes)
+    pick(b, homes, !homes)
 }
 
 // The fitted cells that the block shows.
@@ -39,7 +39,7 @@ pub fn enable_in(s: Settings, b: bool) -> u16
 pub fn read_low(width: u32, register: u32) -> u32
     ensures { result ≡ shown width 0 register }
 {
-    pick32(width == 1, register % 256, register)
+    pick(width == 1, register % 256, register)
 }
 
 // What a read at its second byte shows.
@@ -53,7 +53,7 @@ pub fn read_high(register: u32) -> u32
 fn from_low(width: u32) -> u16
     ensures { result ≡ covered width 0 }
 {
-    pick16(width == 1, 0x00ff, 0xffff)
+    pick(width == 1, 0x00ff, 0xffff)
 }
 
 // The bits of what is written, at its place in the register, that lie in the mask.
@@ -86,10 +86,11 @@ pub fn enable_register(s: Settings, pm1_en: u16, b: bool) -> u16
 pub fn clearable(s: Settings, wake_pin: bool, b: bool) -> u16
     ensures { result ≡ kept 16 (status_in s b) (cond wake_pin pciexp_wake_bit 0) }
 {
-    status_in(s, b) & !pick16(wake_pin, PCIEXP_WAKE, 0)
+    status_in(s, b) & !pick(wake_pin, PCIEXP_WAKE, 0)
 }
 
-// Writing one to a status bit clears it; writing zero keeps it. At the status half's first byte, and at its second.
+// Writing one to a status bit clears it; writing zero keeps it. At the status half's first byte, and at its second: the bus's one match
+// on the offset has chosen the byte, so that no rule tests the place again.
 pub fn status_low(sts: u16, mask: u16, width: u32, written: u32) -> u16
     ensures { result ≡ cleared_by 16 sts (placed 0 written) (bit_and mask (covered width 0)) }
 {
@@ -145,14 +146,13 @@ pub fn control_in(s: Settings, b: bool, bit: u8) -> bool
 pub fn has_pm1b_cnt(s: Settings) -> bool
     ensures { result ≡ has_pm1b_cnt s }
 {
-    let cnt_b = s.pm1b_cnt;
-    platform::is_present(cnt_b)
+    platform::is_present(s.pm1b_cnt)
 }
 
 fn slp_typ(x: Scalars, b: bool) -> u8
     ensures { result ≡ slp_typ (bare no_settings x) b }
 {
-    pick8(b, x.slp_typ_b, x.slp_typ_a)
+    pick(b, x.slp_typ_b, x.slp_typ_a)
 }
 
 // A control register with the one bit set, and with a sleep type of one.
@@ -166,8 +166,8 @@ const SLP_TYP_UNIT: u32 = 1 << SLP_TYPx;
 pub fn control_register(s: Settings, x: Scalars, b: bool) -> u32
     ensures { result ≡ control_register (bare s x) b }
 {
-    let sci_en = pick32(control_in(s, b, SCI_EN) & x.sci_en, SCI_EN_SET, 0);
-    let bm_rld = pick32(control_in(s, b, BM_RLD) & x.bm_rld, BM_RLD_SET, 0);
+    let sci_en = pick(control_in(s, b, SCI_EN) & x.sci_en, SCI_EN_SET, 0);
+    let bm_rld = pick(control_in(s, b, BM_RLD) & x.bm_rld, BM_RLD_SET, 0);
     let typ = slp_typ(x, b) as u32;
     sci_en | bm_rld | (typ % 8 * SLP_TYP_UNIT)
 }
@@ -196,9 +196,7 @@ pub fn written_bit(offset: u64, written: u32, n: u8) -> bool
 fn gpe_half(s: Settings, b: bool) -> u32
     ensures { result ≡ gpe_half s b }
 {
-    let gpe0 = s.gpe0;
-    let gpe1 = s.gpe1;
-    pick32(b, gpe1.length, gpe0.length) / 2
+    pick(b, s.gpe1.length, s.gpe0.length) / 2
 }
 
 pub fn in_gpe_status(s: Settings, b: bool, offset: u64) -> bool

@@ -6,7 +6,7 @@ ghost use Rattle.lists.specs.Any.{any, any_two};
 ghost use Rattle.sleep.specs.Pairs.{sleep_table, absent, out_of_range, same_pair, shared, sleep_refused, named, state_of};
 
 // "for each of S0 to S5, absent or a pair (a, b)": a pair is [a, b], absent is both 255.
-#[derive(Clone, Copy)]
+#[derive(Clone, Copy, Debug, PartialEq, Eq)]
 pub struct SleepTable {
     pub pairs: [[u8; 2]; 6],
 }

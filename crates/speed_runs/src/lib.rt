@@ -76,12 +76,12 @@ pub fn lines(r: Run) -> Run
     ensures { result ≡ lines_added r }
 {
     let machine = r.machine;
-    let with_sci = wrapping_add_u64(r.sum, bits::pick64(sci(machine), 1, 0));
+    let with_sci = wrapping_add_u64(r.sum, bits::pick(sci(machine), 1, 0));
     Run {
         machine,
         value: r.value,
         older: r.older,
-        sum: wrapping_add_u64(with_sci, bits::pick64(smi(machine), 2, 0)),
+        sum: wrapping_add_u64(with_sci, bits::pick(smi(machine), 2, 0)),
     }
 }
 

@@ -218,7 +218,7 @@ fn set_up_turn(table: &[u8], sum: u64) -> u64
     let machine = made.machine;
     let settings = machine.settings;
     let counted = wrapping_add_u64(sum, platform::number(answer) as u64);
-    wrapping_add_u64(counted, bits::pick64(settings.power_override, 3, 1))
+    wrapping_add_u64(counted, bits::pick(settings.power_override, 3, 1))
 }
 
 #[unsafe(no_mangle)]

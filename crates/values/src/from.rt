@@ -5,7 +5,7 @@ ghost use Rattle.platform.specs.Blocks.{block};
 ghost use Rattle.values.specs.Values.{settings_from, machine_from, pairs_in};
 
 use acpi::{ARB_DIS, BM_RLD, SCI_EN, SLP_TYPx};
-use bits::pick8;
+use bits::pick;
 use machine::{GPE_BYTES, Machine};
 use platform::{Block, Settings};
 use sleep::SleepTable;
@@ -56,7 +56,7 @@ fn block(address: u64, length: u64) -> Block
 fn pm1_block(address: u64, length: u64) -> Block
     ensures { result ≡ block address (cond (not (eqb address 0)) (length % 2 ^ 8) 0) }
 {
-    Block::new(address, pick8(address != 0, low8(length), 0) as u32)
+    Block::new(address, pick(address != 0, low8(length), 0) as u32)
 }
 
 fn pair(v: u64) -> [u8; 2]

@@ -3,4 +3,4 @@ use Rattle.control.proofs.completes.Goals as goal
 
 pub returns : goal.returns
 unfolding completes
-returns c = simp (c.pick_bool.ensures, c.has_pm1b_cnt.ensures, c.sets_slp_en.ensures)
+returns c = simp (c.pick.ensures, c.has_pm1b_cnt.ensures, c.sets_slp_en.ensures)

@@ -3,4 +3,4 @@ use Rattle.accesses.proofs.refusals.data_too_wide.Goals as goal
 
 pub returns : goal.returns
 unfolding data_too_wide
-returns c = simp (c.pick64-limit.ensures, c.pick64.ensures)
+returns c = simp (c.pick-limit.ensures, c.pick.ensures)

@@ -41,7 +41,7 @@ returns-in_default-offset c = let q : _ = c.in_default-offset.in_default-offset-
 
 pub returns-in-Pm2Cnt : goal.returns-in-Pm2Cnt
 unfolding read_of
-returns-in-Pm2Cnt c = simp (c.pick32.ensures, c.in-Pm2Cnt.is)
+returns-in-Pm2Cnt c = simp (c.pick.ensures, c.in-Pm2Cnt.is)
 
 pub returns-in-PmTmr : goal.returns-in-PmTmr
 unfolding read_of

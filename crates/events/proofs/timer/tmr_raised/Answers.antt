@@ -3,4 +3,4 @@ use Rattle.events.proofs.timer.tmr_raised.Goals as goal
 
 pub returns : goal.returns
 unfolding tmr_raised
-returns c = simp (c.pick16.ensures, c.fits.ensures)
+returns c = simp (c.pick.ensures, c.fits.ensures)

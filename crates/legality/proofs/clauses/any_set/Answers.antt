@@ -1,5 +1,5 @@
 -- `legality::clauses::any_set` meets its contract: the chain tests each byte from the place on. Assumes nothing.
-use Rattle.std.proofs.Common.{rules, tests, refl}
+use Rattle.std.proofs.Common.{rules, tests}
 use Rattle.std.proofs.lemmas.Iterator.{YieldsList-from_slice}
 use Rattle.std.proofs.lemmas.Iterator.Adapters.{YieldsList-from_skip}
 use lib.Dec.{ltb}

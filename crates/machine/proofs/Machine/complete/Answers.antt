@@ -19,4 +19,4 @@ pub returns : goal.returns
 unfolding completed pending
 returns c =
     let at : _ = c.args in
-    simp (c.enter.ensures, c.pick8.ensures, c.pick16-sts.ensures, c.pending.ensures, c.scalars.ensures, c.is_sleeping.ensures) (within at.self at.state (is_sleeping at.state && pending at.self at.state))
+    simp (c.enter.ensures, c.pick.ensures, c.pick-sts.ensures, c.pending.ensures, c.scalars.ensures, c.is_sleeping.ensures) (within at.self at.state (is_sleeping at.state && pending at.self at.state))

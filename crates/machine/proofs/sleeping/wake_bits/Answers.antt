@@ -3,4 +3,4 @@ use Rattle.machine.proofs.sleeping.wake_bits.Goals as goal
 
 pub returns : goal.returns
 unfolding wake_bits
-returns c = simp (c.pick16.ensures, c.flag.ensures)
+returns c = simp (c.pick.ensures, c.flag.ensures)

@@ -3,4 +3,4 @@ use Rattle.platform.proofs.rules.sleep_pairs_refused.Goals as goal
 
 pub returns : goal.returns
 unfolding sleep_pairs_refused
-returns c = simp (c.refused.ensures, c.is_present.ensures, c.pairs-pairs.ensures)
+returns c = simp (c.refused.ensures, c.is_present.ensures, c.pairs.ensures)
