@@ -6,4 +6,4 @@ mod platform_line;
 mod step_line;
 
 pub use platform_line::{control_homes, event_homes, pairs, platform_reads, power_override};
-pub use step_line::{Line, line_of};
+pub use step_line::line_of;

@@ -1,4 +1,5 @@
 -- Laws for the loops over a script's lines: one turn, and the end. Assumes nothing.
+use Rattle.std.proofs.Common.{Option, Some}
 use mathlib.Core.Bool.{Bool, true, false, cond}
 use mathlib.Core.List.{List, [], ◌∷◌, ◌++◌}
 use mathlib.Core.Path.{◌≡◌, refl, sym, ◌∙◌, ap}
@@ -31,8 +32,6 @@ use Rattle.model.specs.declared.Stepped.{Stepped}
 use Rattle.listing.specs.Entry.{header, entry, entry_length, put_at}
 use Rattle.listing.proofs.Laws.{entry_length_lem}
 use Rattle.script.specs.StepLine.{line_of}
-use Rattle.script.specs.declared.step_line.Line.{Line}
-use Rattle.script.specs.declared.step_line.Line.TheVariants as line
 use Rattle.session.specs.Session.{limit, line_end, is_step, step_reads, first_unread, step_in, entries, ended, listing_of, answer_for, text_for, no_end, step_lines, unread, run_answer, run_buffer, run_end, after_platform_line, platform_line_reads, set_up_by, once_set_up, answer_of, buffer_after, session_end}
 use Rattle.session.specs.declared.EndAnswer.TheVariants as end
 use Rattle.session.specs.declared.Ended.{Ended}
@@ -57,11 +56,11 @@ module _ (xs : List ℕ) (i : ℕ) where
       go false e = omega (arith, long, ltb-false (end_of lf xs i) (length xs) e)
 
   -- a line that says a step reads where it ends within the limit
-  pub step-read : (l : List ℕ) (r : Line) (next : ℕ) (s : Step) → l ≡ line_at → r ≡ line_of l → next ≡ next_line xs i → r ≡ line.Step s
+  pub step-read : (l : List ℕ) (r : Option Step) (next : ℕ) (s : Step) → l ≡ line_at → r ≡ line_of l → next ≡ next_line xs i → r ≡ Some s
       → leb next limit ≡ step_reads (length xs) i line_at
   unfolding step_reads
   step-read l r next s p q e k =
-      let says : line_of line_at ≡ line.Step s = ap line_of (sym p) ∙ sym q ∙ k in
+      let says : line_of line_at ≡ Some s = ap line_of (sym p) ∙ sym q ∙ k in
       rw (says, e, next-is-end) refl
 
   -- a step's line ends within the limit

@@ -1,5 +1,5 @@
 -- "A session, whole": from a table's bytes and a script's to the listing, or to the machine at the end; and one resumed, from a machine.
-use Rattle.std.specs.Prelude.{Bool, true, false, cond, ◌&&◌, List, [], ◌∷◌, ◌++◌, ℕ, suc, ◌+◌, min, eqb, leb, length, drop}
+use Rattle.std.specs.Prelude.{Option, Some, None, Bool, true, false, cond, ◌&&◌, List, [], ◌∷◌, ◌++◌, ℕ, suc, ◌+◌, min, eqb, leb, length, drop}
 use Rattle.text.specs.Parts.{lf, front, lines_of, next_line}
 use Rattle.platform.specs.Answer.{if_done}
 use Rattle.platform.specs.declared.rules.SetUpRefusal.{SetUpRefusal}
@@ -12,8 +12,6 @@ use Rattle.model.specs.declared.Step.{Step}
 use Rattle.model.specs.declared.Step.TheVariants as step
 use Rattle.script.specs.PlatformLine.{platform_reads, homes_at, override_in, pairs_in}
 use Rattle.script.specs.StepLine.{line_of}
-use Rattle.script.specs.declared.step_line.Line.{Line}
-use Rattle.script.specs.declared.step_line.Line.TheVariants as line
 use Rattle.listing.specs.Entry.{header, entry, put_at}
 use Rattle.session.specs.declared.EndAnswer.{EndAnswer}
 use Rattle.session.specs.declared.EndAnswer.TheVariants as end
@@ -31,9 +29,9 @@ limit = 65536
 abbrev pub line_end : ℕ → ℕ → List ℕ → ℕ
 line_end size at l = min (at + length l + 1) size
 
-abbrev pub is_step : Line → Bool
-is_step (line.Step s) = true
-is_step line.Unread = false
+abbrev pub is_step : Option Step → Bool
+is_step (Some s) = true
+is_step None = false
 
 -- a line is a step, and no byte of it, its LF too, lies past byte 65,536
 unfoldable pub step_reads : ℕ → ℕ → List ℕ → Bool
@@ -47,9 +45,9 @@ first_unread size k at (l ∷ ls) = cond (step_reads size at l) (first_unread si
 -- ---- the listing
 
 -- the step that a line says
-unfoldable pub step_in : Line → Step
-step_in (line.Step s) = s
-step_in line.Unread = step.Drop
+unfoldable pub step_in : Option Step → Step
+step_in (Some s) = s
+step_in None = step.Drop
 
 -- "the lines SCI and SMI and the state are those after the step": a line for each step, run from the machine
 unfoldable pub entries : ℕ → Machine → List (List ℕ) → List ℕ

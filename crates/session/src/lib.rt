@@ -14,7 +14,7 @@ use listing::{HEADER_LENGTH, entry_length, write_entry, write_header};
 use machine::{Machine, SetUp, all_zero};
 use model::{Step, Stepped};
 use platform::{SetUpAnswer, SetUpRefusal};
-use script::{Line, control_homes, event_homes, line_of, pairs, platform_reads, power_override};
+use script::{control_homes, event_homes, line_of, pairs, platform_reads, power_override};
 use text::{decimal_digits, line_count, line_from, next_line};
 
 #[derive(Clone, Copy)]
@@ -53,14 +53,15 @@ pub struct Ended {
 pub const LIMIT: usize = 65536;
 
 // Whether the line that begins at a place is a step and ends within the limit.
+#[tactic(auto, unfolding(crate::specs::Session::step_reads))]
 fn step_reads(source: &[u8], start: usize) -> bool
     ensures { result ≡ step_reads (length source.now) start (front lf (drop start source.now)) }
 {
     let next = next_line(source, start);
     let line = line_of(line_from(source, start));
     match line {
-        Line::Step(_) => next <= LIMIT,
-        Line::Unread => false,
+        Some(_) => next <= LIMIT,
+        None => false,
     }
 }
 
@@ -82,13 +83,11 @@ fn first_unread(source: &[u8], from: usize, first: usize) -> usize
     0
 }
 
-fn step_in(line: Line) -> Step
+#[tactic(auto, unfolding(crate::specs::Session::step_in))]
+fn step_in(line: Option<Step>) -> Step
     ensures { result ≡ step_in line }
 {
-    match line {
-        Line::Step(s) => s,
-        Line::Unread => Step::Drop,
-    }
+    line.unwrap_or(Step::Drop)
 }
 
 // The step of the line that begins at a place, done.

@@ -2,7 +2,6 @@
 use crate::platforms::{power_on, session};
 use machine::Machine;
 use model::{Answer, Step};
-use script::Line;
 use text::{part, same};
 
 // More than a step's text or a listing's line has.
@@ -47,8 +46,8 @@ fn heard(out: &impl Print, m: Machine, words: &[u8]) -> Machine {
         return m;
     }
     match read(words) {
-        Line::Step(s) => done(out, m, s),
-        Line::Unread => {
+        Some(s) => done(out, m, s),
+        None => {
             files::say(out, b"\tunread");
             m
         }
@@ -60,7 +59,7 @@ fn is_remark(words: &[u8]) -> bool {
 }
 
 // A script parts its fields by tabs, a case by single spaces.
-fn read(words: &[u8]) -> Line {
+fn read(words: &[u8]) -> Option<Step> {
     let mut copy = [b'\n'; ROOM];
     text::write_text(&mut copy, 0, words);
     let line = tabbed(copy);

@@ -1,9 +1,8 @@
 // A line that does not read. Each sentence is a fact that keeps such a line from reading; where none is found, it is only said that it does not.
 use crate::nearest::nearest;
 use crate::say::{byte, count, field_number, front, hex, say, shown, wide};
-use script::Line;
 use session::LIMIT;
-use text::{field, field_count, hex_value, is_hex, line_from, next_line, part, part_count, same};
+use text::{field, field_count, hex_value, line_from, next_line, part, part_count, same};
 
 const TAB: u8 = 9;
 
@@ -184,11 +183,7 @@ fn odd(out: &impl Print, byte: u8) {
 
 // A step that is a word alone, also one that the forms do not have.
 fn stands_alone(word: &[u8]) -> bool {
-    let read = script::line_of(word);
-    match read {
-        Line::Step(_) => true,
-        Line::Unread => false,
-    }
+    script::line_of(word).is_some()
 }
 
 // The forms are lines, each with its fields parted by spaces.
@@ -314,9 +309,9 @@ fn value_reads(name: &[u8], value: &[u8]) -> bool {
         return same(value, b"0") | same(value, b"1");
     }
     if is_state(name) {
-        return same(value, b"-") | ((value.len() == 2) & is_hex(value));
+        return same(value, b"-") | ((value.len() == 2) & hex_value(value).is_some());
     }
-    is_hex(value) & (hex_value(value) <= largest(name))
+    hex_value(value).is_some_and(|n| n <= largest(name))
 }
 
 fn value_wrong(out: &impl Print, name: &[u8], value: &[u8]) {
@@ -341,7 +336,7 @@ fn value_wrong(out: &impl Print, name: &[u8], value: &[u8]) {
         );
         return;
     }
-    if is_hex(value) {
+    if hex_value(value).is_some() {
         say(out, b" does not fit ");
         say(out, name);
         say(out, b" (at most ");
@@ -382,7 +377,7 @@ fn no_number(out: &impl Print, value: &[u8]) {
 
 // What to write, where it is a number.
 fn instead(out: &impl Print, digits: &[u8]) {
-    if is_hex(digits) {
+    if hex_value(digits).is_some() {
         say(out, b" (write ");
         say(out, digits);
         say(out, b")");
@@ -394,7 +389,7 @@ fn instead(out: &impl Print, digits: &[u8]) {
 fn first_no_digit(value: &[u8]) -> usize {
     let mut i = 0;
     while i < value.len() {
-        if 16 <= text::digit_of(byte(value, i)) {
+        if text::digit_of(byte(value, i)).is_none() {
             return i;
         }
         i += 1;
