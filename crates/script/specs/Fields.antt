@@ -1,5 +1,5 @@
 -- The fields of a line. Quotations are from docs/SCRIPT.md.
-use Rattle.std.specs.Prelude.{Bool, ◌&&◌, List, [], ℕ, ltb, get_or}
+use Rattle.std.specs.Prelude.{Bool, Option, Some, None, cond, ◌&&◌, List, [], ℕ, ltb, get_or}
 use Rattle.text.specs.Numbers.{is_number, number_of}
 use Rattle.text.specs.Parts.{fields_of}
 
@@ -17,6 +17,10 @@ hex_at line n = number_of 16 16 (field_at line n)
 -- a number below the limit
 unfoldable pub is_below : ℕ → List ℕ → Bool
 is_below limit digits = is_number 16 16 digits && ltb (number_of 16 16 digits) limit
+
+-- the number, where it is below the limit
+unfoldable pub number_below : ℕ → List ℕ → Option ℕ
+number_below limit digits = cond (is_below limit digits) (Some (number_of 16 16 digits)) None
 
 abbrev pub hex_below : ℕ → List ℕ → ℕ → Bool
 hex_below limit line n = is_below limit (field_at line n)

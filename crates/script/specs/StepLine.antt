@@ -1,5 +1,5 @@
 -- A line as a step. Quotations are from docs/SCRIPT.md.
-use Rattle.std.specs.Prelude.{Bool, cond, ◌&&◌, List, ℕ, ◌^◌, Option, Some, None, eqb, length}
+use Rattle.std.specs.Prelude.{Bool, Option, Some, None, cond, ◌&&◌, List, ℕ, ◌^◌, eqb, length}
 use Rattle.text.specs.Parts.{fields_of, same_text}
 use Rattle.model.specs.declared.Access.{Access}
 use Rattle.model.specs.declared.Event.TheVariants as event
@@ -44,6 +44,10 @@ access_in l = record { port = hex_at l 1; width = hex_at l 2 }
 -- "PORT below 2^64, WIDTH below 2^32"
 unfoldable pub access_reads : List ℕ → List ℕ → Bool
 access_reads port width = is_number 16 16 port && is_below (2 ^ 32) width
+
+-- the access, where both read
+unfoldable pub access_at : List ℕ → Option Access
+access_at l = cond (access_reads (field_at l 1) (field_at l 2)) (Some (access_in l)) None
 
 -- "r PORT WIDTH"
 unfoldable pub read_line : List ℕ → Option Step

@@ -1,20 +1,19 @@
-// Numbers in fields.
+// Numbers that fit a type of fewer bits.
 ghost use Rattle.std.specs.Prelude.{◌≡◌};
-ghost use Rattle.script.specs.Fields.{is_below, hex_below};
+ghost use Rattle.script.specs.Fields.{number_below};
 
-use text::{field, hex_value, is_hex};
+use text::hex_value;
 
-pub(crate) fn is_below(digits: &[u8], limit: u64) -> bool
-    ensures { result ≡ is_below limit digits.now }
+#[tactic(auto, unfolding(crate::specs::Fields::is_below, crate::specs::Fields::number_below, text::specs::Numbers::number_in, text::specs::Numbers::number_of))]
+pub(crate) fn hex16(digits: &[u8]) -> Option<u16>
+    ensures { result ≡ number_below 0x10000 digits.now }
 {
-    if is_hex(digits) {
-        return hex_value(digits) < limit;
-    }
-    false
+    u16::try_from(hex_value(digits)?).ok()
 }
 
-pub(crate) fn hex_below(line: &[u8], n: usize, limit: u64) -> bool
-    ensures { result ≡ hex_below limit line.now n }
+#[tactic(auto, unfolding(crate::specs::Fields::is_below, crate::specs::Fields::number_below, text::specs::Numbers::number_in, text::specs::Numbers::number_of))]
+pub(crate) fn hex32(digits: &[u8]) -> Option<u32>
+    ensures { result ≡ number_below 0x100000000 digits.now }
 {
-    is_below(field(line, n), limit)
+    u32::try_from(hex_value(digits)?).ok()
 }

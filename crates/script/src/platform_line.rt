@@ -14,17 +14,18 @@ ghost use Rattle.script.specs.PlatformLine.{
   host_in,
 };
 
-use crate::hex_fields::hex_below;
+use crate::hex_fields::hex16;
 use platform::Host;
-use text::{digit_of, field, field_count, field_hex, field_is, is_hex};
+use text::{digit_of, field, field_count, field_is, hex_value};
 
+#[tactic(auto, unfolding(crate::specs::PlatformLine::platform_reads, crate::specs::Fields::number_below))]
 pub fn platform_reads(line: &[u8]) -> bool
     ensures { result ≡ platform_reads line.now }
 {
     (field_count(line) == 10)
         & field_is(line, 0, b"platform")
-        & hex_below(line, 1, 0x10000)
-        & hex_below(line, 2, 0x10000)
+        & hex16(field(line, 1)).is_some()
+        & hex16(field(line, 2)).is_some()
         & override_reads(line)
         & states_read(line)
 }
@@ -68,16 +69,18 @@ fn power_override(line: &[u8]) -> bool
 fn pairs(line: &[u8]) -> [[u8; 2]; 6]
     ensures { result ≡ pairs_in line.now }
 {
-    let s0 = pair(line, 4);
-    let s1 = pair(line, 5);
-    let s2 = pair(line, 6);
-    let s3 = pair(line, 7);
-    let s4 = pair(line, 8);
-    let s5 = pair(line, 9);
-    [s0, s1, s2, s3, s4, s5]
+    [
+        pair(line, 4),
+        pair(line, 5),
+        pair(line, 6),
+        pair(line, 7),
+        pair(line, 8),
+        pair(line, 9),
+    ]
 }
 
 // Whether field 3 is the override, 0 or 1.
+#[tactic(auto, unfolding(crate::specs::PlatformLine::override_reads))]
 fn override_reads(line: &[u8]) -> bool
     ensures { result ≡ override_reads (field_at line.now 3) }
 {
@@ -85,14 +88,16 @@ fn override_reads(line: &[u8]) -> bool
 }
 
 // Whether field n is a state: absent, or two digits.
+#[tactic(auto, unfolding(crate::specs::PlatformLine::state_reads, text::specs::Numbers::number_in, text::specs::Numbers::is_number))]
 fn state_reads(line: &[u8], n: usize) -> bool
     ensures { result ≡ state_reads (field_at line.now n) }
 {
     let absent = field_is(line, n, b"-");
     let digits = field(line, n);
-    absent | ((digits.len() == 2) & is_hex(digits))
+    absent | ((digits.len() == 2) & hex_value(digits).is_some())
 }
 
+#[tactic(auto, unfolding(crate::specs::PlatformLine::states_read))]
 fn states_read(line: &[u8]) -> bool
     ensures { result ≡ states_read line.now }
 {
@@ -105,27 +110,25 @@ fn states_read(line: &[u8]) -> bool
 }
 
 // The number of field n, where it is one of 16 bits; else 0.
+#[tactic(auto, unfolding(crate::specs::PlatformLine::homes_at, crate::specs::Fields::number_below))]
 fn homes_at(line: &[u8], n: usize) -> u16
     ensures { result ≡ homes_at line.now n }
 {
-    if hex_below(line, n, 0x10000) {
-        field_hex(line, n) as u16
-    } else {
-        0
-    }
+    hex16(field(line, n)).unwrap_or(0)
 }
 
-// The digit at a place of a text; 16 past its end.
+// The digit at a place of a text; 16 where none stands.
+#[tactic(auto, unfolding(text::specs::Numbers::digit_of, text::specs::Numbers::digit_in))]
 fn digit_at(digits: &[u8], i: usize) -> u8
     ensures { result ≡ digit_of (get_or digits.now i 0) }
 {
-    if i < digits.len() {
-        digit_of(digits[i])
-    } else {
-        16
+    match digits.get(i) {
+        Some(byte) => digit_of(*byte).unwrap_or(16),
+        None => 16,
     }
 }
 
+#[tactic(auto, unfolding(crate::specs::PlatformLine::pair_of))]
 fn pair(line: &[u8], n: usize) -> [u8; 2]
     ensures { result ≡ pair_of (field_at line.now n) }
 {
@@ -133,7 +136,5 @@ fn pair(line: &[u8], n: usize) -> [u8; 2]
         return [255, 255];
     }
     let digits = field(line, n);
-    let a = digit_at(digits, 0);
-    let b = digit_at(digits, 1);
-    [a, b]
+    [digit_at(digits, 0), digit_at(digits, 1)]
 }

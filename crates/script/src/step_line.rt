@@ -1,11 +1,12 @@
 // A line as a step.
 ghost use Rattle.std.specs.Prelude.{◌≡◌};
-ghost use Rattle.script.specs.StepLine.{lone_line, pin_line, count_line, access_reads, read_line, write_line, line_of};
+ghost use Rattle.script.specs.StepLine.{lone_line, pin_line, count_line, access_at, read_line, write_line, line_of};
 
-use crate::hex_fields::is_below;
+use crate::hex_fields::hex32;
 use model::{Access, Event, Step};
-use text::{field, field_count, field_is, hex_value, is_hex, same};
+use text::{field, field_count, field_hex, field_is, same};
 
+#[tactic(auto, unfolding(crate::specs::StepLine::lone_line))]
 fn lone_line(word: &[u8]) -> Option<Step>
     ensures { result ≡ lone_line word.now }
 {
@@ -37,6 +38,7 @@ fn lone_line(word: &[u8]) -> Option<Step>
 }
 
 // "pin 1", "pin 0".
+#[tactic(auto, unfolding(crate::specs::StepLine::pin_line))]
 fn pin_line(digit: &[u8]) -> Option<Step>
     ensures { result ≡ pin_line digit.now }
 {
@@ -50,86 +52,71 @@ fn pin_line(digit: &[u8]) -> Option<Step>
 }
 
 // "event N", "tick N".
+#[tactic(auto, unfolding(crate::specs::StepLine::count_line, crate::specs::Fields::number_below))]
 fn count_line(line: &[u8]) -> Option<Step>
     ensures { result ≡ count_line line.now }
 {
-    let digits = field(line, 1);
-    if is_below(digits, 0x100000000) {
-        let n = hex_value(digits) as u32;
-        if field_is(line, 0, b"event") {
-            return Some(Step::Event(Event::General(n)));
-        }
-        if field_is(line, 0, b"tick") {
-            return Some(Step::Event(Event::Ticks(n)));
-        }
-        return None;
+    let n = hex32(field(line, 1))?;
+    if field_is(line, 0, b"event") {
+        return Some(Step::Event(Event::General(n)));
+    }
+    if field_is(line, 0, b"tick") {
+        return Some(Step::Event(Event::Ticks(n)));
     }
     None
 }
 
-fn access_reads(port: &[u8], width: &[u8]) -> bool
-    ensures { result ≡ access_reads port.now width.now }
+// "PORT WIDTH".
+#[tactic(auto, unfolding(crate::specs::StepLine::access_at, crate::specs::StepLine::access_reads, crate::specs::Fields::number_below, text::specs::Numbers::number_in, text::specs::Numbers::number_of))]
+fn access(line: &[u8]) -> Option<Access>
+    ensures { result ≡ access_at line.now }
 {
-    is_hex(port) & is_below(width, 0x100000000)
+    let port = field_hex(line, 1)?;
+    let width = hex32(field(line, 2))?;
+    Some(Access { port, width })
 }
 
 // "r PORT WIDTH".
+#[tactic(auto, unfolding(crate::specs::StepLine::read_line, crate::specs::StepLine::access_at))]
 fn read_line(line: &[u8]) -> Option<Step>
     ensures { result ≡ read_line line.now }
 {
     if field_is(line, 0, b"r") {
-        let port = field(line, 1);
-        let width = field(line, 2);
-        if access_reads(port, width) {
-            return Some(Step::Read(Access {
-                port: hex_value(port),
-                width: hex_value(width) as u32,
-            }));
-        }
+        let access = access(line)?;
+        return Some(Step::Read(access));
     }
     None
 }
 
 // "w PORT WIDTH DATA".
+#[tactic(auto, unfolding(crate::specs::StepLine::write_line, crate::specs::StepLine::access_at, text::specs::Numbers::number_in, text::specs::Numbers::number_of))]
 fn write_line(line: &[u8]) -> Option<Step>
     ensures { result ≡ write_line line.now }
 {
     if field_is(line, 0, b"w") {
-        let port = field(line, 1);
-        let width = field(line, 2);
-        let written = field(line, 3);
-        if access_reads(port, width) {
-            if is_hex(written) {
-                let access = Access {
-                    port: hex_value(port),
-                    width: hex_value(width) as u32,
-                };
-                return Some(Step::Write(access, hex_value(written)));
-            }
-        }
+        let access = access(line)?;
+        let data = field_hex(line, 3)?;
+        return Some(Step::Write(access, data));
     }
     None
 }
 
-// What a line after the first says.
+// What a line after the first says: a step, or nothing that reads.
+#[tactic(auto, unfolding(crate::specs::StepLine::line_of))]
 pub fn line_of(line: &[u8]) -> Option<Step>
     ensures { result ≡ line_of line.now }
 {
-    let count = field_count(line);
-    if count == 1 {
-        return lone_line(field(line, 0));
-    }
-    if count == 2 {
-        if field_is(line, 0, b"pin") {
-            return pin_line(field(line, 1));
+    match field_count(line) {
+        1 => lone_line(field(line, 0)),
+        2 => {
+            if field_is(line, 0, b"pin") {
+                pin_line(field(line, 1))
+            } else {
+                count_line(line)
+            }
         }
-        return count_line(line);
+        3 => read_line(line),
+        4 => write_line(line),
+        _ => None,
     }
-    if count == 3 {
-        return read_line(line);
-    }
-    if count == 4 {
-        return write_line(line);
-    }
-    None
 }

@@ -93,13 +93,11 @@ fn first_unread(source: &[u8], from: usize, first: usize) -> Option<usize>
     None
 }
 
+#[tactic(auto, unfolding(crate::specs::Session::step_in))]
 fn step_in(line: Option<Step>) -> Step
     ensures { result ≡ step_in line }
 {
-    match line {
-        Some(s) => s,
-        None => Step::Drop,
-    }
+    line.unwrap_or(Step::Drop)
 }
 
 // The step of a line, done.

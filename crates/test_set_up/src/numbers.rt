@@ -21,10 +21,11 @@ pub(crate) fn number(out: &impl Print, digits: &[u8]) -> u32 {
 }
 
 fn hex(out: &impl Print, digits: &[u8]) -> u32 {
-    if !text::is_hex(digits) {
+    let read = text::hex_value(digits);
+    if read.is_none() {
         unread(out, digits);
     }
-    let n = text::hex_value(digits);
+    let n = read.unwrap_or(0);
     if 0xFFFFFFFF < n {
         unread(out, digits);
     }
@@ -35,7 +36,7 @@ fn decimal(out: &impl Print, digits: &[u8]) -> u32 {
     let mut n: u32 = 0;
     let mut i = 0;
     while i < digits.len() {
-        let digit = digit_of(digits[i]);
+        let digit = digit_of(digits[i]).unwrap_or(16);
         if 9 < digit {
             unread(out, digits);
         }

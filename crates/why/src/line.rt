@@ -2,7 +2,7 @@
 use crate::nearest::nearest;
 use crate::say::{byte, count, field_number, front, hex, say, shown, wide};
 use session::LIMIT;
-use text::{field, field_count, hex_value, is_hex, line_from, next_line, part, part_count, same};
+use text::{field, field_count, hex_value, line_from, next_line, part, part_count, same};
 
 const TAB: u8 = 9;
 
@@ -309,9 +309,9 @@ fn value_reads(name: &[u8], value: &[u8]) -> bool {
         return same(value, b"0") | same(value, b"1");
     }
     if is_state(name) {
-        return same(value, b"-") | ((value.len() == 2) & is_hex(value));
+        return same(value, b"-") | ((value.len() == 2) & hex_value(value).is_some());
     }
-    is_hex(value) & (hex_value(value) <= largest(name))
+    hex_value(value).is_some_and(|n| n <= largest(name))
 }
 
 fn value_wrong(out: &impl Print, name: &[u8], value: &[u8]) {
@@ -336,7 +336,7 @@ fn value_wrong(out: &impl Print, name: &[u8], value: &[u8]) {
         );
         return;
     }
-    if is_hex(value) {
+    if hex_value(value).is_some() {
         say(out, b" does not fit ");
         say(out, name);
         say(out, b" (at most ");
@@ -377,7 +377,7 @@ fn no_number(out: &impl Print, value: &[u8]) {
 
 // What to write, where it is a number.
 fn instead(out: &impl Print, digits: &[u8]) {
-    if is_hex(digits) {
+    if hex_value(digits).is_some() {
         say(out, b" (write ");
         say(out, digits);
         say(out, b")");
@@ -389,7 +389,7 @@ fn instead(out: &impl Print, digits: &[u8]) {
 fn first_no_digit(value: &[u8]) -> usize {
     let mut i = 0;
     while i < value.len() {
-        if 16 <= text::digit_of(byte(value, i)) {
+        if text::digit_of(byte(value, i)).is_none() {
             return i;
         }
         i += 1;
