@@ -1,9 +1,10 @@
 -- The row of SCI and SMI alone: no step, the status cells changed in each turn.
+use Rattle.std.specs.Hash.DefaultHasher.{wrapping_add}
 use Rattle.std.specs.Prelude.{ℕ, zero, suc, ◌/◌, ◌%◌, ◌^◌, false, List, replicate}
 use Rattle.machine.specs.Fields.{with_event, with_gpe}
 use Rattle.machine.specs.PowerOn.{gpe_bytes}
 use Rattle.machine.specs.declared.Machine.{Machine}
-use Rattle.speed_runs.specs.Runs.{plus, set_up_here, prepared_of, lines_added}
+use Rattle.speed_runs.specs.Runs.{set_up_here, prepared_of, lines_added}
 use Rattle.speed_runs.specs.declared.Run.{Run}
 
 abbrev pub all_bytes : ℕ → List ℕ
@@ -24,7 +25,7 @@ lines_from r = lines_added (record { machine = status_from r.machine r.sum; valu
 
 -- 257 more: every status byte differs in the next turn
 unfoldable pub lines_turn : Run → Run
-lines_turn r = record { machine = (lines_from r).machine; value = (lines_from r).value; older = (lines_from r).older; sum = plus (lines_from r).sum 257 }
+lines_turn r = record { machine = (lines_from r).machine; value = (lines_from r).value; older = (lines_from r).older; sum = wrapping_add (lines_from r).sum 257 }
 
 -- n turns
 unfoldable pub lines_turns : ℕ → Run → Run

@@ -1,20 +1,17 @@
 -- A saved text read n times, and a machine's text written n times into one buffer.
-use Rattle.std.specs.Prelude.{ℕ, zero, suc, ◌+◌, ◌%◌, ◌^◌, List, length}
+use Rattle.std.specs.Hash.DefaultHasher.{wrapping_add}
+use Rattle.std.specs.Prelude.{ℕ, zero, suc, ◌%◌, ◌^◌, List, length}
 use Rattle.machine.specs.Fields.{with_time}
 use Rattle.machine.specs.declared.Machine.{Machine}
 use Rattle.saved.specs.Answer.{read_number, written_number, written_value}
 use Rattle.saved.specs.Reading.{read_of}
 use Rattle.saved.specs.Text.{write_answer, written_buffer}
 
--- a sum of 64 bits
-abbrev pub plus : ℕ → ℕ → ℕ
-plus sum n = (sum + n) % 2 ^ 64
-
 -- ---- reading
 
 -- one more: its answer's number and its machine's counter are added
 unfoldable pub read_turn : List ℕ → ℕ → ℕ
-read_turn text sum = plus (plus sum (read_number (read_of text).answer)) (read_of text).machine.counter
+read_turn text sum = wrapping_add (wrapping_add sum (read_number (read_of text).answer)) (read_of text).machine.counter
 
 -- n more
 unfoldable pub reads_of : List ℕ → ℕ → ℕ → ℕ
@@ -29,7 +26,7 @@ counting m sum = with_time m (sum % 2 ^ 32) m.hold
 
 -- one more: its answer's number and value are added
 unfoldable pub write_turn : Machine → ℕ → ℕ → ℕ
-write_turn m room sum = plus (plus sum (written_number (write_answer (counting m sum) room))) (written_value (write_answer (counting m sum) room))
+write_turn m room sum = wrapping_add (wrapping_add sum (written_number (write_answer (counting m sum) room))) (written_value (write_answer (counting m sum) room))
 
 -- n more: the sum, and the lent buffer
 unfoldable pub writes_of : Machine → ℕ → ℕ → ℕ → ℕ

@@ -7,13 +7,6 @@ ghost use Rattle.saved.specs.Reading.{read_of};
 ghost use Rattle.speed_saved.specs.Texts.{read_turn, reads_of, counting, write_turn, writes_of, buffer_after};
 
 use machine::Machine;
-use std::num::wrapping_add_u64;
-
-fn wide(x: u32) -> u64
-    ensures { result ≡ x }
-{
-    x as u64
-}
 
 // A text read once more; its answer's number and its machine's counter are added.
 #[tactic(auto, unfolding(crate::specs::Texts::read_turn))]
@@ -23,19 +16,18 @@ fn read_turn(text: &[u8], sum: u64) -> u64
     let back = saved::read(text);
     let answer = back.answer;
     let machine = back.machine;
-    let counted = wrapping_add_u64(sum, saved::read_number(answer) as u64);
-    wrapping_add_u64(counted, wide(machine.counter))
+    let counted = sum.wrapping_add(u64::from(saved::read_number(answer)));
+    counted.wrapping_add(u64::from(machine.counter))
 }
 
+#[tactic(auto, using(crate::proofs::Laws::reads_turn, crate::proofs::Laws::reads_end))]
 #[unsafe(no_mangle)]
 pub extern "C" fn speed_run_read(text: &[u8], n: u64) -> u64
     ensures { result ≡ reads_of text.now n 0 }
 {
     let mut sum: u64 = 0;
-    let mut left = n;
-    while 0 < left {
+    for _ in 0..n {
         sum = read_turn(text, sum);
-        left -= 1;
     }
     sum
 }
@@ -55,18 +47,17 @@ fn write_turn(m: Machine, buf: &mut [u8], sum: u64) -> u64
     ensures { (result ≡ write_turn m (length buf.old) sum) × (buf.new ≡ written_buffer (counting m sum) buf.old) }
 {
     let answer = saved::write(counting(m, sum), buf);
-    let counted = wrapping_add_u64(sum, saved::written_number(answer) as u64);
-    wrapping_add_u64(counted, saved::written_value(answer))
+    let counted = sum.wrapping_add(u64::from(saved::written_number(answer)));
+    counted.wrapping_add(saved::written_value(answer))
 }
 
+#[tactic(auto, using(crate::proofs::Laws::writes_turn, crate::proofs::Laws::writes_end, crate::proofs::Laws::buffer_turn, crate::proofs::Laws::buffer_end, crate::proofs::Laws::written_length))]
 fn writes(m: Machine, buf: &mut [u8], n: u64) -> u64
     ensures { (result ≡ writes_of m (length buf.old) n 0) × (buf.new ≡ buffer_after m n buf.old 0) }
 {
     let mut sum: u64 = 0;
-    let mut left = n;
-    while 0 < left {
+    for _ in 0..n {
         sum = write_turn(m, buf, sum);
-        left -= 1;
     }
     sum
 }

@@ -1,6 +1,6 @@
--- Laws for the loop over sessions: one turn, and the end; and a session keeps the buffer's length. Assumes nothing.
+-- Laws for the loop over sessions: one turn, and the end, where i of n sessions are done; and a session keeps the buffer's length. Assumes nothing.
 use Rattle.std.specs.Prelude.{⊤}
-use Rattle.std.proofs.Common.{◌≡◌, ℕ, zero, suc, Bool, true, false, cond, eqb, List, length, refl, Result, Ok, Err}
+use Rattle.std.proofs.Common.{◌≡◌, ℕ, suc, ◌+◌, ◌-◌, ◌<◌, ◌≤◌, Bool, true, false, cond, eqb, List, length, refl, Result, Ok, Err, arith}
 use Rattle.platform.specs.Answer.{if_done}
 use Rattle.platform.specs.declared.rules.SetUpRefusal.{SetUpRefusal}
 use Rattle.listing.specs.Entry.{put_at}
@@ -9,27 +9,29 @@ use Rattle.session.proofs.Laws.{put-length}
 use Rattle.speed_session.specs.Sessions.{session_turn, sum_after, buffers_after}
 
 module _ (table script : List ℕ) where
-  pub sum-turn : (n : ℕ) (buffer : List ℕ) (sum : ℕ)
-      → sum_after table script (suc n) buffer sum ≡ sum_after table script n (buffer_after table script buffer) (session_turn table script (length buffer) sum)
-  unfolding sum_after
-  sum-turn n buffer sum = refl
+  module _ (n i : ℕ) (buffer : List ℕ) where
+    pub sum_turn : (sum : ℕ) → i < n
+        → sum_after table script (n - i) buffer sum
+        ≡ sum_after table script (n - (i + 1)) (buffer_after table script buffer) (session_turn table script (length buffer) sum)
+    unfolding sum_after
+    sum_turn sum h = let e : n - i ≡ suc (n - (i + 1)) = omega arith in rw e refl
 
-  pub sum-end : (buffer : List ℕ) (sum : ℕ) → sum_after table script zero buffer sum ≡ sum
-  unfolding sum_after
-  sum-end buffer sum = refl
+    pub sum_end : (sum : ℕ) → n ≤ i → sum_after table script (n - i) buffer sum ≡ sum
+    unfolding sum_after
+    sum_end sum h = let e : n - i ≡ 0 = omega arith in rw e refl
 
-  pub buffers-turn : (n : ℕ) (buffer : List ℕ) → buffers_after table script (suc n) buffer ≡ buffers_after table script n (buffer_after table script buffer)
-  unfolding buffers_after
-  buffers-turn n buffer = refl
+    pub buffers_turn : i < n → buffers_after table script (n - i) buffer ≡ buffers_after table script (n - (i + 1)) (buffer_after table script buffer)
+    unfolding buffers_after
+    buffers_turn h = let e : n - i ≡ suc (n - (i + 1)) = omega arith in rw e refl
 
-  pub buffers-end : (buffer : List ℕ) → buffers_after table script zero buffer ≡ buffer
-  unfolding buffers_after
-  buffers-end buffer = refl
+    pub buffers_end : n ≤ i → buffers_after table script (n - i) buffer ≡ buffer
+    unfolding buffers_after
+    buffers_end h = let e : n - i ≡ 0 = omega arith in rw e refl
 
   -- a session keeps the buffer's length
-  pub buffer-length : (buffer : List ℕ) → length (buffer_after table script buffer) ≡ length buffer
+  pub buffer_length : (buffer : List ℕ) → length (buffer_after table script buffer) ≡ length buffer
   unfolding buffer_after run_buffer text_for
-  buffer-length buffer = go (platform_line_reads script) (set_up_by table script).answer (eqb (unread script (after_platform_line script) 2) 0)
+  buffer_length buffer = go (platform_line_reads script) (set_up_by table script).answer (eqb (unread script (after_platform_line script) 2) 0)
     where
       text : List ℕ
       text = listing_of (set_up_by table script).machine (step_lines script (after_platform_line script))

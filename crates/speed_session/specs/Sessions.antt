@@ -1,15 +1,12 @@
 -- A session, n times into one buffer.
-use Rattle.std.specs.Prelude.{ℕ, zero, suc, ◌+◌, ◌%◌, ◌^◌, List, length}
+use Rattle.std.specs.Hash.DefaultHasher.{wrapping_add}
+use Rattle.std.specs.Prelude.{ℕ, zero, suc, List, length}
 use Rattle.session.specs.Answer.{session_number, session_value}
 use Rattle.session.specs.Session.{answer_of, buffer_after}
 
--- a sum of 64 bits
-abbrev pub plus : ℕ → ℕ → ℕ
-plus sum n = (sum + n) % 2 ^ 64
-
 -- one more: its answer's number and value are added
 unfoldable pub session_turn : List ℕ → List ℕ → ℕ → ℕ → ℕ
-session_turn table script room sum = plus (plus sum (session_number (answer_of table script room))) (session_value (answer_of table script room))
+session_turn table script room sum = wrapping_add (wrapping_add sum (session_number (answer_of table script room))) (session_value (answer_of table script room))
 
 -- n more: the sum, and the lent buffer
 unfoldable pub sum_after : List ℕ → List ℕ → ℕ → List ℕ → ℕ → ℕ

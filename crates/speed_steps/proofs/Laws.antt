@@ -1,26 +1,12 @@
--- Laws for the loops: one turn, and the end. Assumes nothing.
-use Rattle.std.proofs.Common.{◌≡◌, ℕ, zero, suc, List, refl}
-use Rattle.speed_runs.specs.Runs.{run_step}
-use Rattle.speed_runs.specs.declared.Run.{Run}
-use Rattle.speed_steps.specs.Rows.{last_of, step_at, next_place, lines_if, run_steps}
+-- Laws for the loop: one turn, and the end, where i of n turns are done. Assumes nothing.
+use Rattle.std.proofs.Common.{◌≡◌, ℕ, suc, ◌+◌, ◌-◌, ◌<◌, ◌≤◌, List, refl, arith}
 use Rattle.speed_steps.specs.SetUps.{set_up_turn, set_ups_of}
-use Rattle.speed_steps.specs.declared.Ports.{Ports}
-use Rattle.speed_steps.specs.declared.Row.{Row}
 
-module _ (x : Row) (p : Ports) where
-  pub steps-turn : (n k : ℕ) (r : Run) → run_steps x p (suc n) k r ≡ run_steps x p n (next_place (last_of x) k) (lines_if x k (run_step r (step_at x k p r.older)))
-  unfolding run_steps
-  steps-turn n k r = refl
-
-  pub steps-end : (k : ℕ) (r : Run) → run_steps x p zero k r ≡ r
-  unfolding run_steps
-  steps-end k r = refl
-
-module _ (table : List ℕ) where
-  pub set-ups-turn : (n sum : ℕ) → set_ups_of table (suc n) sum ≡ set_ups_of table n (set_up_turn table sum)
+module _ (table : List ℕ) (n i sum : ℕ) where
+  pub set_ups_turn : i < n → set_ups_of table (n - i) sum ≡ set_ups_of table (n - (i + 1)) (set_up_turn table sum)
   unfolding set_ups_of
-  set-ups-turn n sum = refl
+  set_ups_turn h = let e : n - i ≡ suc (n - (i + 1)) = omega arith in rw e refl
 
-  pub set-ups-end : (sum : ℕ) → set_ups_of table zero sum ≡ sum
+  pub set_ups_end : n ≤ i → set_ups_of table (n - i) sum ≡ sum
   unfolding set_ups_of
-  set-ups-end sum = refl
+  set_ups_end h = let e : n - i ≡ 0 = omega arith in rw e refl

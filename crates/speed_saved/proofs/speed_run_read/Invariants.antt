@@ -1,11 +1,8 @@
 -- `speed_saved::speed_run_read` meets its contract. The loop's invariant: the turns that are left, from the sum as it is, give what all of them give from
 -- zero. Assumes nothing.
-use Rattle.std.proofs.Common.{◌≡◌}
+use Rattle.std.proofs.Common.{◌≡◌, ◌-◌}
 use Rattle.speed_saved.specs.Texts.{reads_of}
 use Rattle.speed_saved.proofs.speed_run_read.Given as goal
 
-abbrev pub invariant-loop-left : goal.invariant-loop-left
-invariant-loop-left l = reads_of l.text l.left l.sum ≡ reads_of l.text l.n 0
-
-abbrev pub decreases-loop-left : goal.decreases-loop-left
-decreases-loop-left l = l.left
+abbrev pub invariant-loop : goal.invariant-loop
+invariant-loop l = reads_of l.text (l.n - l.counter) l.sum ≡ reads_of l.text l.n 0
