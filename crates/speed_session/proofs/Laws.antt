@@ -1,10 +1,10 @@
 -- Laws for the loop over sessions: one turn, and the end, where i of n sessions are done; and a session keeps the buffer's length. Assumes nothing.
-use Rattle.std.specs.Prelude.{⊤}
-use Rattle.std.proofs.Common.{◌≡◌, ℕ, suc, ◌+◌, ◌-◌, ◌<◌, ◌≤◌, Bool, true, false, cond, eqb, List, length, refl, Result, Ok, Err, arith}
+use Rattle.std.specs.Prelude.{⊤, Option, Some, None}
+use Rattle.std.proofs.Common.{◌≡◌, ℕ, suc, ◌+◌, ◌-◌, ◌<◌, ◌≤◌, Bool, true, false, cond, List, length, refl, Result, Ok, Err, arith}
 use Rattle.platform.specs.Answer.{if_done}
 use Rattle.platform.specs.declared.rules.SetUpRefusal.{SetUpRefusal}
 use Rattle.listing.specs.Entry.{put_at}
-use Rattle.session.specs.Session.{listing_of, text_for, step_lines, unread, run_buffer, after_platform_line, platform_line_reads, set_up_by, buffer_after}
+use Rattle.session.specs.Session.{listing_of, text_for, step_lines, unread, if_all_read, run_buffer, after_platform_line, platform_line_reads, set_up_by, buffer_after}
 use Rattle.session.proofs.Laws.{put-length}
 use Rattle.speed_session.specs.Sessions.{session_turn, sum_after, buffers_after}
 
@@ -31,13 +31,13 @@ module _ (table script : List ℕ) where
   -- a session keeps the buffer's length
   pub buffer_length : (buffer : List ℕ) → length (buffer_after table script buffer) ≡ length buffer
   unfolding buffer_after run_buffer text_for
-  buffer_length buffer = go (platform_line_reads script) (set_up_by table script).answer (eqb (unread script (after_platform_line script) 2) 0)
+  buffer_length buffer = go (platform_line_reads script) (set_up_by table script).answer (unread script (after_platform_line script) 2)
     where
       text : List ℕ
       text = listing_of (set_up_by table script).machine (step_lines script (after_platform_line script))
 
-      go : (a : Bool) (b : Result ⊤ SetUpRefusal) (c : Bool) → length (cond a (if_done b (cond c (put_at buffer 0 text) buffer) (λ line. buffer)) buffer) ≡ length buffer
-      go true (Ok _) true = put-length buffer 0 text
-      go true (Ok _) false = refl
-      go true (Err r) c = refl
-      go false b c = refl
+      go : (a : Bool) (b : Result ⊤ SetUpRefusal) (u : Option ℕ) → length (cond a (if_done b (if_all_read u (put_at buffer 0 text) (λ line. buffer)) (λ line. buffer)) buffer) ≡ length buffer
+      go true (Ok _) None = put-length buffer 0 text
+      go true (Ok _) (Some line) = refl
+      go true (Err r) u = refl
+      go false b u = refl
