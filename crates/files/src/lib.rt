@@ -2,7 +2,7 @@
 // that fails ends the input, and what cannot be written is left out.
 #![tactic(auto)]
 
-ghost use Rattle.std.specs.Prelude.{◌≡◌, length, take, true, OnErr, IfOk, IfSome};
+ghost use Rattle.std.specs.Prelude.{◌≡◌, ◌<◌, length, take, true, OnErr, IfOk, IfSome};
 ghost use Rattle.std.specs.Io.{StartsWith};
 ghost use Rattle.std.specs.Io.KnownBytes.{Consumes, IsAtEnd};
 ghost use Rattle.files.specs.Counts.{IsPrefixLen};
@@ -46,10 +46,7 @@ pub fn is_at_end<R: Read>(reader: &mut R) -> bool
     ensures { result ≡ true → IsAtEnd (R.remaining reader.old) }
 {
     let mut next = [0u8; 1];
-    match reader.read(&mut next) {
-        Ok(n) => n == 0,
-        Err(_) => false,
-    }
+    matches!(reader.read(&mut next), Ok(0))
 }
 
 // Reads what was opened, as `read_full` does; what did not open has no byte.
@@ -64,7 +61,21 @@ pub fn read_opened<R: Read + Drop>(opened: io::Result<R>, buf: &mut [u8]) -> usi
     }
 }
 
-// Writes the bytes out, or as many as can be written.
+// Reads as `read_full` does. `None` where the buffer is not full and the input is not at its end: it goes on, or cannot be read.
+pub fn read_whole<R: Read>(reader: &mut R, buf: &mut [u8]) -> Option<usize>
+    ensures in_bounds { IfSome result (λ n. IsPrefixLen n buf.new) }
+    ensures bytes { IfSome result (λ n. IfSome (R.remaining reader.old) (λ xs. StartsWith xs (take n buf.new))) }
+    ensures whole { IfSome result (λ n. n < length buf.new → IfSome (R.remaining reader.old) (λ xs. xs ≡ take n buf.new)) }
+{
+    let n = read_full(reader, buf);
+    if n < buf.len() && !is_at_end(reader) {
+        return None;
+    }
+    Some(n)
+}
+
+// Writes the bytes out, or as many as can be written. No clause can name what an output shows: the methods of `Print` have none. Over a writer whose bytes
+// a clause names, this is std's `Write::write_all`, which has one.
 pub fn say(out: &impl Print, text: &[u8]) {
     let _ = out.write_all(text);
 }
@@ -134,6 +145,16 @@ mod tests {
         assert_eq!(rt; read_full(&mut reader, &mut buf), 1);
         assert_eq!(rt; &buf, b"\x07\0\0");
         assert!(rt; !is_at_end(&mut reader));
+        Ok(())
+    }
+
+    #[test]
+    fn a_whole_input_ends_or_fills_the_buffer(rt: HostRuntime) -> Result<(), Fail> {
+        let mut reader: &[u8] = b"abc";
+        let mut buf = [0u8; 3];
+        assert_eq!(rt; read_whole(&mut reader, &mut buf), Some(3));
+        let mut failing = Failing { is_spent: false };
+        assert_eq!(rt; read_whole(&mut failing, &mut buf), None);
         Ok(())
     }
 

@@ -1,12 +1,11 @@
 // The platforms that the cases start from.
 use machine::Machine;
-use platform::Host;
+use std::io;
 use test_tables::{
-    COMMON, FLAGS, GPE0_BLK, GPE0_BLK_LEN, GPE1_BASE, GPE1_BLK, GPE1_BLK_LEN, NO_STATE, PM_TMR_BLK,
-    PM_TMR_LEN, PM1b_CNT_BLK, PM1b_EVT_BLK, PM2_CNT_BLK, PM2_CNT_LEN, ROOM, SESSION,
+    COMMON, FLAGS, GPE0_BLK, GPE0_BLK_LEN, GPE1_BASE, GPE1_BLK, GPE1_BLK_LEN, Host, NO_STATE,
+    PM_TMR_BLK, PM_TMR_LEN, PM1b_CNT_BLK, PM1b_EVT_BLK, PM2_CNT_BLK, PM2_CNT_LEN, ROOM, SESSION,
     SESSION_STATES, filled, pairs_of, summing_to,
 };
-use text::same;
 
 // Beside the session's fields.
 const FULL: [[u32; 2]; 6] = [
@@ -38,54 +37,61 @@ const BARE: [[u32; 2]; 3] = [
     [FLAGS, 0x0070],
 ];
 
-pub(crate) fn power_on(out: &impl Print, name: &[u8]) -> Machine {
-    if same(name, b"full") {
-        return full();
+pub(crate) fn power_on(out: &impl Print, name: &[u8]) -> io::Result<Machine> {
+    match name {
+        b"full" => Ok(full()),
+        b"single" => Ok(single()),
+        b"bare" => Ok(bare()),
+        b"session" => Ok(session()),
+        _ => {
+            println!(out; "unread")?;
+            Ok(session())
+        }
     }
-    if same(name, b"single") {
-        return single();
-    }
-    if same(name, b"bare") {
-        return bare();
-    }
-    if !same(name, b"session") {
-        files::say(out, b"unread\n");
-    }
-    session()
 }
 
 // Document 01's worked session: RTC has home B, the wake pin is not fitted.
 pub(crate) fn session() -> Machine {
-    set_up(session_table(), 0x0400, 0x0000, false, SESSION_STATES)
+    let host = Host {
+        event_homes: 0x0400,
+        control_homes: 0x0000,
+        power_override: false,
+        states: SESSION_STATES,
+    };
+    set_up(session_table(), host)
 }
 
 // All fitted, with flag 7 and the override; all homes A; events 0 to F and 20 to 2F.
 fn full() -> Machine {
-    let states = [0x0000, 0x0106, 0x0205, 0x0304, 0x0403, 0x0502];
-    set_up(filled(session_table(), &FULL), 0x0000, 0x0000, true, states)
+    let host = Host {
+        event_homes: 0x0000,
+        control_homes: 0x0000,
+        power_override: true,
+        states: [0x0000, 0x0106, 0x0205, 0x0304, 0x0403, 0x0502],
+    };
+    set_up(filled(session_table(), &FULL), host)
 }
 
 // Block A alone, no SMI_CMD, no override; 32 bits; events 0 to 1F.
 fn single() -> Machine {
-    let states = [0x0000, 0x0100, 0x0200, 0x0300, 0x0400, 0x0500];
-    set_up(
-        filled(common_table(), &SINGLE),
-        0x0000,
-        0x0000,
-        false,
-        states,
-    )
+    let host = Host {
+        event_homes: 0x0000,
+        control_homes: 0x0000,
+        power_override: false,
+        states: [0x0000, 0x0100, 0x0200, 0x0300, 0x0400, 0x0500],
+    };
+    set_up(filled(common_table(), &SINGLE), host)
 }
 
 // Blocks A and B with all homes B, and nothing else; no sleep state.
 fn bare() -> Machine {
-    set_up(
-        filled(common_table(), &BARE),
-        0xC731,
-        0x0007,
-        true,
-        [NO_STATE; 6],
-    )
+    let host = Host {
+        event_homes: 0xC731,
+        control_homes: 0x0007,
+        power_override: true,
+        states: [NO_STATE; 6],
+    };
+    set_up(filled(common_table(), &BARE), host)
 }
 
 fn common_table() -> [u8; ROOM] {
@@ -96,19 +102,13 @@ fn session_table() -> [u8; ROOM] {
     filled(common_table(), &SESSION)
 }
 
-fn set_up(
-    table: [u8; ROOM],
-    event_homes: u16,
-    control_homes: u16,
-    power_override: bool,
-    states: [u16; 6],
-) -> Machine {
+fn set_up(table: [u8; ROOM], host: Host) -> Machine {
     let t = summing_to(0, table);
-    let host = Host {
-        event_homes,
-        control_homes,
-        power_override,
-        pairs: pairs_of(states),
+    let host = platform::Host {
+        event_homes: host.event_homes,
+        control_homes: host.control_homes,
+        power_override: host.power_override,
+        pairs: pairs_of(host.states),
     };
     let made = machine::set_up(&t[..116], host);
     made.machine

@@ -3,7 +3,6 @@ ghost use Rattle.std.specs.Prelude.{◌≡◌, ◌%◌, take};
 ghost use Rattle.test_tables.specs.Tables.{is_wide, field_set, filled_of, sum, summing_to};
 
 use crate::fields::{CHECKSUM, FLAGS, GPE1_BLK, LENGTH, PM1a_EVT_BLK, SMI_CMD};
-use std::num::wrapping_add_u8;
 
 // Room for a table of 116 bytes and a few past its length.
 pub const ROOM: usize = 124;
@@ -13,12 +12,9 @@ pub fn filled(table: [u8; ROOM], fields: &[[u32; 2]]) -> [u8; ROOM]
     ensures { result ≡ filled_of table fields.now }
 {
     let mut t = table;
-    let mut i = 0;
-    while i < fields.len() {
-        let field = fields[i];
+    for field in fields {
         let next = put(t, field[0], field[1]);
         t = next;
-        i += 1;
     }
     t
 }
@@ -27,7 +23,7 @@ pub fn filled(table: [u8; ROOM], fields: &[[u32; 2]]) -> [u8; ROOM]
 pub fn summing_to(sum: u8, table: [u8; ROOM]) -> [u8; ROOM]
     ensures { result ≡ summing_to sum table }
 {
-    let n = wide(table[LENGTH as usize]);
+    let n = table[LENGTH as usize] as usize;
     let mut cleared = table;
     cleared[CHECKSUM as usize] = 0;
     let others = sum_of(&cleared, n);
@@ -71,21 +67,13 @@ fn low_byte(value: u32) -> u8
     (value % 256) as u8
 }
 
-fn wide(byte: u8) -> usize
-    ensures { result ≡ byte }
-{
-    byte as usize
-}
-
 // The sum of the bytes, modulo 256.
 fn sum_all(bytes: &[u8]) -> u8
     ensures { result ≡ sum bytes.now % 256 }
 {
     let mut total: u8 = 0;
-    let mut i: usize = 0;
-    while i < bytes.len() {
-        total = wrapping_add_u8(total, bytes[i]);
-        i += 1;
+    for byte in bytes {
+        total = total.wrapping_add(*byte);
     }
     total
 }

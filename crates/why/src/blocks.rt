@@ -1,206 +1,244 @@
-// The blocks, by the order of their FADT address fields: SMI_CMD 0, PM1a_EVT 1 to GPE1 8.
-use crate::say::{count, port, say, wide};
-use platform::{BLOCKS, Block, GPE_LONGEST, PORTS, holds_port, is_present};
-use std::num::{wrapping_add_u64, wrapping_sub_u64};
+// The blocks, by the order of their FADT address fields.
+use crate::say::Port;
+use platform::{
+    BLOCKS, Block, FadtBlock, GPE_LONGEST, PORTS, SetUpRefusal, holds_port, is_present,
+};
+use std::io;
 
-const LONGEST: u64 = GPE_LONGEST as u64;
+const ORDER: [FadtBlock; BLOCKS] = [
+    FadtBlock::SmiCmd,
+    FadtBlock::Pm1aEvtBlk,
+    FadtBlock::Pm1bEvtBlk,
+    FadtBlock::Pm1aCntBlk,
+    FadtBlock::Pm1bCntBlk,
+    FadtBlock::Pm2CntBlk,
+    FadtBlock::PmTmrBlk,
+    FadtBlock::Gpe0Blk,
+    FadtBlock::Gpe1Blk,
+];
 
-fn length(b: Block) -> u64 {
-    b.length as u64
+// A block and which it is.
+#[derive(Clone, Copy)]
+struct Named {
+    of: FadtBlock,
+    block: Block,
 }
 
-// The last port of a block that has one.
-fn last(b: Block) -> u64 {
-    wrapping_sub_u64(wrapping_add_u64(b.address, length(b)), 1)
-}
-
-fn name(out: &impl Print, i: usize) {
-    match i {
-        0 => say(out, b"SMI_CMD"),
-        1 => say(out, b"PM1a_EVT_BLK"),
-        2 => say(out, b"PM1b_EVT_BLK"),
-        3 => say(out, b"PM1a_CNT_BLK"),
-        4 => say(out, b"PM1b_CNT_BLK"),
-        5 => say(out, b"PM2_CNT_BLK"),
-        6 => say(out, b"PM_TMR_BLK"),
-        7 => say(out, b"GPE0_BLK"),
-        _ => say(out, b"GPE1_BLK"),
-    }
-}
-
-fn length_name(out: &impl Print, i: usize) {
-    match i {
-        1 | 2 => say(out, b"PM1_EVT_LEN"),
-        3 | 4 => say(out, b"PM1_CNT_LEN"),
-        5 => say(out, b"PM2_CNT_LEN"),
-        6 => say(out, b"PM_TMR_LEN"),
-        7 => say(out, b"GPE0_BLK_LEN"),
-        _ => say(out, b"GPE1_BLK_LEN"),
-    }
-}
-
-// The one length that a block may have, and what its address is a multiple of where it has to be one; a GPE block may have several lengths.
-fn due_length(i: usize) -> u64 {
-    match i {
-        1 | 2 | 6 => 4,
-        3 | 4 => 2,
-        _ => 1,
-    }
-}
-
-fn length_is_wrong(i: usize, b: Block) -> bool {
-    let n = length(b);
-    if i == 0 {
-        return false;
-    }
-    if !is_present(b) {
-        return (5 <= i) & (n != 0);
-    }
-    if 7 <= i {
-        return !((n % 2 == 0) & ((2 <= n) & (n <= LONGEST)));
-    }
-    n != due_length(i)
-}
-
-// Lines 6, 7 and 8: says the first block that the line fails for, and why; whether there is one.
-pub(crate) fn first_wrong(out: &impl Print, line: u8, blocks: [Block; BLOCKS]) -> bool {
-    let mut i = 0;
-    while i < BLOCKS {
-        if wrong(out, line, i, blocks[i], blocks) {
-            return true;
+impl Named {
+    fn name(self) -> &'static str {
+        match self.of {
+            FadtBlock::SmiCmd => "SMI_CMD",
+            FadtBlock::Pm1aEvtBlk => "PM1a_EVT_BLK",
+            FadtBlock::Pm1bEvtBlk => "PM1b_EVT_BLK",
+            FadtBlock::Pm1aCntBlk => "PM1a_CNT_BLK",
+            FadtBlock::Pm1bCntBlk => "PM1b_CNT_BLK",
+            FadtBlock::Pm2CntBlk => "PM2_CNT_BLK",
+            FadtBlock::PmTmrBlk => "PM_TMR_BLK",
+            FadtBlock::Gpe0Blk => "GPE0_BLK",
+            FadtBlock::Gpe1Blk => "GPE1_BLK",
         }
-        i += 1;
     }
-    false
+
+    // SMI_CMD is a port and has no length field.
+    fn length_name(self) -> &'static str {
+        match self.of {
+            FadtBlock::SmiCmd => "",
+            FadtBlock::Pm1aEvtBlk | FadtBlock::Pm1bEvtBlk => "PM1_EVT_LEN",
+            FadtBlock::Pm1aCntBlk | FadtBlock::Pm1bCntBlk => "PM1_CNT_LEN",
+            FadtBlock::Pm2CntBlk => "PM2_CNT_LEN",
+            FadtBlock::PmTmrBlk => "PM_TMR_LEN",
+            FadtBlock::Gpe0Blk => "GPE0_BLK_LEN",
+            FadtBlock::Gpe1Blk => "GPE1_BLK_LEN",
+        }
+    }
+
+    // The one length that a block may have, and what its address is a multiple of; a GPE block may have several lengths, and lie anywhere.
+    fn due_length(self) -> u64 {
+        match self.of {
+            FadtBlock::Pm1aEvtBlk | FadtBlock::Pm1bEvtBlk | FadtBlock::PmTmrBlk => 4,
+            FadtBlock::Pm1aCntBlk | FadtBlock::Pm1bCntBlk => 2,
+            _ => 1,
+        }
+    }
+
+    fn is_gpe(self) -> bool {
+        matches!(self.of, FadtBlock::Gpe0Blk | FadtBlock::Gpe1Blk)
+    }
+
+    // Whether the length field is this block's alone; both PM1 blocks of a group share one.
+    fn has_own_length(self) -> bool {
+        self.is_gpe() || matches!(self.of, FadtBlock::Pm2CntBlk | FadtBlock::PmTmrBlk)
+    }
+
+    fn length(self) -> u64 {
+        u64::from(self.block.length)
+    }
+
+    // The last port of a block that has one.
+    fn last(self) -> u64 {
+        self.block
+            .address
+            .wrapping_add(self.length())
+            .wrapping_sub(1)
+    }
+
+    fn length_is_wrong(self) -> bool {
+        let n = self.length();
+        if matches!(self.of, FadtBlock::SmiCmd) {
+            return false;
+        }
+        if !is_present(self.block) {
+            return self.has_own_length() && n != 0;
+        }
+        if self.is_gpe() {
+            return n % 2 != 0 || n < 2 || u64::from(GPE_LONGEST) < n;
+        }
+        n != self.due_length()
+    }
+
+    // PM1a event and control have to be there.
+    fn is_missing(self) -> bool {
+        matches!(self.of, FadtBlock::Pm1aEvtBlk | FadtBlock::Pm1aCntBlk) && !is_present(self.block)
+    }
+
+    fn is_misaligned(self) -> bool {
+        match self.due_length() {
+            4 => self.block.address % 4 != 0,
+            2 => self.block.address % 2 != 0,
+            _ => false,
+        }
+    }
+
+    fn passes(self) -> bool {
+        match PORTS.checked_sub(self.block.address) {
+            Some(room) => room < self.length(),
+            None => true,
+        }
+    }
 }
 
-// Whether the line fails for block i, which is then said.
-fn wrong(out: &impl Print, line: u8, i: usize, b: Block, blocks: [Block; BLOCKS]) -> bool {
-    match line {
-        6 => tell_length(out, i, b),
-        7 => tell_place(out, i, b),
-        _ => tell_overlap(out, i, b, blocks),
+// Of lines 6, 7 and 8 of setting up the one that refuses: says the first block that it fails for, and why; whether there is one.
+pub(crate) fn first_wrong(
+    out: &impl Print,
+    refusal: SetUpRefusal,
+    blocks: [Block; BLOCKS],
+) -> io::Result<bool> {
+    for (i, of) in ORDER.iter().enumerate() {
+        let b = Named {
+            of: *of,
+            block: blocks[i],
+        };
+        let found = match refusal {
+            SetUpRefusal::BlockLength => tell_length(out, b)?,
+            SetUpRefusal::BlockPlace => tell_place(out, b)?,
+            _ => tell_overlap(out, i, b, blocks)?,
+        };
+        if found {
+            return Ok(true);
+        }
     }
+    Ok(false)
 }
 
-fn tell_length(out: &impl Print, i: usize, b: Block) -> bool {
-    if !length_is_wrong(i, b) {
-        return false;
+fn tell_length(out: &impl Print, b: Named) -> io::Result<bool> {
+    if !b.length_is_wrong() {
+        return Ok(false);
     }
-    name(out, i);
-    say(out, b" is ");
-    port(out, b.address);
-    say(out, b" and ");
-    length_name(out, i);
-    say(out, b" is ");
-    count(out, length(b));
-    if 7 <= i {
-        say(out, b" (an even number from 2 to ");
-        count(out, LONGEST);
+    let address = Port(b.block.address);
+    print!(out;
+        "{} is {address} and {} is {}",
+        b.name(),
+        b.length_name(),
+        b.length()
+    )?;
+    if b.is_gpe() {
+        print!(out; " (an even number from 2 to {GPE_LONGEST}")?;
     } else {
-        say(out, b" (");
-        count(out, due_length(i));
+        print!(out; " ({}", b.due_length())?;
     }
-    if 5 <= i {
-        say(out, b" is allowed, or both zero)");
+    if b.has_own_length() {
+        print!(out; " is allowed, or both zero)")?;
     } else {
-        say(out, b" is allowed)");
+        print!(out; " is allowed)")?;
     }
-    true
+    Ok(true)
 }
 
-fn misaligned(i: usize, address: u64) -> bool {
-    match i {
-        1 | 2 | 6 => address % 4 != 0,
-        3 | 4 => address % 2 != 0,
-        _ => false,
+fn tell_place(out: &impl Print, b: Named) -> io::Result<bool> {
+    if b.is_missing() {
+        print!(out; "{} is 0, and this block has to be there", b.name())?;
+        return Ok(true);
     }
-}
-
-fn passes(b: Block) -> bool {
-    if PORTS < b.address {
-        return true;
+    if b.is_misaligned() {
+        let address = Port(b.block.address);
+        print!(out;
+            "{} is {address}, no multiple of {}",
+            b.name(),
+            b.due_length()
+        )?;
+        return Ok(true);
     }
-    PORTS - b.address < length(b)
-}
-
-fn tell_place(out: &impl Print, i: usize, b: Block) -> bool {
-    if ((i == 1) | (i == 3)) & !is_present(b) {
-        name(out, i);
-        say(out, b" is 0, and this block has to be there");
-        return true;
+    if b.passes() {
+        named_ports(out, b)?;
+        print!(out; ", and the last port is FFFF")?;
+        return Ok(true);
     }
-    if misaligned(i, b.address) {
-        name(out, i);
-        say(out, b" is ");
-        port(out, b.address);
-        say(out, b", no multiple of ");
-        count(out, due_length(i));
-        return true;
-    }
-    if passes(b) {
-        named_ports(out, i, b);
-        say(out, b", and the last port is FFFF");
-        return true;
-    }
-    false
+    Ok(false)
 }
 
 // A present block and its ports.
-fn named_ports(out: &impl Print, i: usize, b: Block) {
-    name(out, i);
-    say(out, b" has ");
-    if length(b) < 2 {
-        say(out, b"port ");
-        port(out, b.address);
+fn named_ports(out: &impl Print, b: Named) -> io::Result<()> {
+    let first = Port(b.block.address);
+    if b.length() < 2 {
+        print!(out; "{} has port {first}", b.name())
     } else {
-        say(out, b"ports ");
-        port(out, b.address);
-        say(out, b" to ");
-        port(out, last(b));
+        print!(out; "{} has ports {first} to {}", b.name(), Port(b.last()))
     }
 }
 
-// With a later block.
-fn tell_overlap(out: &impl Print, i: usize, a: Block, blocks: [Block; BLOCKS]) -> bool {
-    let mut j = 0;
-    while j < BLOCKS {
-        let b = blocks[j];
-        if (i < j) & share(a, b) {
-            tell_two(out, i, a, j, b);
-            return true;
+// Block i with a later one.
+fn tell_overlap(out: &impl Print, i: usize, a: Named, blocks: [Block; BLOCKS]) -> io::Result<bool> {
+    for (j, of) in ORDER.iter().enumerate() {
+        let b = Named {
+            of: *of,
+            block: blocks[j],
+        };
+        if i < j && share(a.block, b.block) {
+            named_ports(out, a)?;
+            print!(out; ", and ")?;
+            named_ports(out, b)?;
+            print!(out; ": they overlap")?;
+            return Ok(true);
         }
-        j += 1;
     }
-    false
-}
-
-fn tell_two(out: &impl Print, i: usize, a: Block, j: usize, b: Block) {
-    named_ports(out, i, a);
-    say(out, b", and ");
-    named_ports(out, j, b);
-    say(out, b": they overlap");
+    Ok(false)
 }
 
 fn share(a: Block, b: Block) -> bool {
-    (is_present(a) & is_present(b)) & (holds_port(a, b.address) | holds_port(b, a.address))
+    is_present(a) && is_present(b) && (holds_port(a, b.address) || holds_port(b, a.address))
 }
 
 // Line 9, of a GPE1 that is present.
-pub(crate) fn wrong_numbers(out: &impl Print, base: u8, gpe0: Block, gpe1: Block) {
-    let first = wide(base);
+pub(crate) fn wrong_numbers(
+    out: &impl Print,
+    base: u8,
+    gpe0: Block,
+    gpe1: Block,
+) -> io::Result<()> {
+    let first = u64::from(base);
     let before = platform::event_count(gpe0);
-    let past = wrapping_add_u64(first, platform::event_count(gpe1));
     if first < before {
-        say(out, b"GPE1_BASE is ");
-        port(out, first);
-        say(out, b", and GPE0 has events 0 to ");
-        port(out, wrapping_sub_u64(before, 1));
+        print!(out;
+            "GPE1_BASE is {}, and GPE0 has events 0 to {}",
+            Port(first),
+            Port(before - 1)
+        )
     } else {
-        say(out, b"GPE1 has events ");
-        port(out, first);
-        say(out, b" to ");
-        port(out, wrapping_sub_u64(past, 1));
-        say(out, b", and the last event is FF");
+        let past = first.wrapping_add(platform::event_count(gpe1));
+        print!(out;
+            "GPE1 has events {} to {}, and the last event is FF",
+            Port(first),
+            Port(past.wrapping_sub(1))
+        )
     }
 }

@@ -1,184 +1,175 @@
 // A line that does not read. Each sentence is a fact that keeps such a line from reading; where none is found, it is only said that it does not.
-use crate::nearest::nearest;
-use crate::say::{byte, count, field_number, front, hex, say, shown, wide};
+use crate::nearest::{first_field, nearest};
+use crate::say::Shown;
 use session::LIMIT;
-use text::{field, field_count, hex_value, line_from, next_line, part, part_count, same};
+use std::str::from_utf8;
+use std::{fmt, io};
+use text::{field, field_count, hex_value, line_from, next_line, part_count};
 
-const TAB: u8 = 9;
+const TAB: u8 = b'\t';
 
-const LF: u8 = 10;
+const PLATFORM: &str = "platform EVENT_HOMES CONTROL_HOMES OVERRIDE S0 S1 S2 S3 S4 S5";
 
-const CR: u8 = 13;
-
-const SPACE: u8 = 32;
-
-const HASH: u8 = 35;
-
-const SLASH: u8 = 47;
-
-const SEMICOLON: u8 = 59;
+// The forms of the steps, each with its fields parted by spaces.
+const STEPS: [&str; 13] = [
+    "r PORT WIDTH",
+    "w PORT WIDTH DATA",
+    "press",
+    "release",
+    "sleep",
+    "alarm",
+    "pin LEVEL",
+    "master",
+    "unlock",
+    "event N",
+    "tick N",
+    "take",
+    "drop",
+];
 
 // The start of a line, counted from 1.
 fn line_start(source: &[u8], line: usize) -> usize {
     let mut start = 0;
-    let mut k = 1;
-    while k < line {
+    for _ in 1..line {
         start = next_line(source, start);
-        k += 1;
     }
     start
 }
 
-pub(crate) fn platform_unread(out: &impl Print, source: &[u8]) {
-    say(out, b"line 1");
-    if general(out, source, 0) {
-        return;
+pub(crate) fn platform_unread(out: &impl Print, source: &[u8]) -> io::Result<()> {
+    print!(out; "line 1")?;
+    if let Some(fault) = first_fault(source, 0) {
+        return println!(out; "{fault}");
     }
     let line = line_from(source, 0);
-    if same(field(line, 0), b"platform") {
-        against(
-            out,
-            line,
-            b"platform EVENT_HOMES CONTROL_HOMES OVERRIDE S0 S1 S2 S3 S4 S5",
-        );
-        return;
+    match field(line, 0) {
+        b"platform" => against(out, line, PLATFORM),
+        word => {
+            let word = Shown(word);
+            println!(out;
+                ", field 1: {word} stands where platform is due (the first line is the platform line)"
+            )
+        }
     }
-    say(out, b", field 1: ");
-    shown(out, field(line, 0));
-    say(
-        out,
-        b" stands where platform is due (the first line is the platform line)\n",
-    );
 }
 
 // after_platform: the script has a platform line, its first.
-pub(crate) fn step_unread(out: &impl Print, source: &[u8], line: usize, after_platform: bool) {
-    say(out, b"line ");
-    count(out, line as u64);
+pub(crate) fn step_unread(
+    out: &impl Print,
+    source: &[u8],
+    line: usize,
+    after_platform: bool,
+) -> io::Result<()> {
+    print!(out; "line {line}")?;
     let start = line_start(source, line);
-    if general(out, source, start) {
-        return;
+    if let Some(fault) = first_fault(source, start) {
+        return println!(out; "{fault}");
     }
     let bytes = line_from(source, start);
-    if same(field(bytes, 0), b"platform") {
-        if after_platform {
-            say(
-                out,
-                b", field 1: a second platform line (only the first line is one)\n",
-            );
-        } else {
-            say(
-                out,
-                b", field 1: a platform line (steps that go on from a saved text have none)\n",
-            );
+    match field(bytes, 0) {
+        b"platform" if after_platform => {
+            println!(out; ", field 1: a second platform line (only the first line is one)")
         }
-        return;
+        b"platform" => {
+            println!(out;
+                ", field 1: a platform line (steps that go on from a saved text have none)"
+            )
+        }
+        word => step(out, bytes, word),
     }
-    step(
-        out,
-        bytes,
-        b"r PORT WIDTH\nw PORT WIDTH DATA\npress\nrelease\nsleep\nalarm\npin LEVEL\nmaster\nunlock\nevent N\ntick N\ntake\ndrop",
-    );
 }
 
-// What keeps any line from reading; whether something of that kind was found, and said.
-fn general(out: &impl Print, source: &[u8], start: usize) -> bool {
-    let line = line_from(source, start);
+// What keeps any line from reading.
+#[derive(Clone, Copy, Debug)]
+enum Fault {
+    PastLimit,
+    EmptyScript,
+    EmptyLine,
+    ByteOrderMark,
+    Comment(u8),
+    TabAtStart,
+    CrAtEnd,
+    // in this field, counted from 1, a byte that no line has
+    Odd(usize, u8),
+}
+
+impl fmt::Display for Fault {
+    fn fmt<W: fmt::Write>(&self, f: &mut fmt::Formatter<W>) -> fmt::Result {
+        match *self {
+            Fault::PastLimit => write!(
+                f,
+                ": it passes byte 65,536, where a script ends at the latest"
+            ),
+            Fault::EmptyScript => write!(f, ": the script is empty"),
+            Fault::EmptyLine => write!(f, ": it is empty"),
+            Fault::ByteOrderMark => write!(
+                f,
+                ": a byte order mark stands at its start (sed -i '1s/^\\xEF\\xBB\\xBF//' FILE takes it out)"
+            ),
+            Fault::Comment(byte) => {
+                let sign = char::from(byte);
+                write!(f, ": it begins with {sign} (a script has no comments)")
+            }
+            Fault::TabAtStart => write!(
+                f,
+                ", field 1: it is empty (a tab stands at the line's start)"
+            ),
+            Fault::CrAtEnd => write!(
+                f,
+                ": CR stands at its end (sed -i 's/\\r$//' FILE takes it out of every line)"
+            ),
+            Fault::Odd(n, b' ') => write!(
+                f,
+                ", field {n}: a space stands in it (one tab parts two fields)"
+            ),
+            Fault::Odd(n, b'\r') => write!(f, ", field {n}: CR stands in it (lines end in LF)"),
+            Fault::Odd(n, byte) => write!(
+                f,
+                ", field {n}: the byte {byte:02X} stands in it (a script is ASCII text)"
+            ),
+        }
+    }
+}
+
+fn first_fault(source: &[u8], start: usize) -> Option<Fault> {
     if LIMIT < next_line(source, start) {
-        say(
-            out,
-            b": it passes byte 65,536, where a script ends at the latest\n",
-        );
-        return true;
+        return Some(Fault::PastLimit);
     }
-    if source.len() == 0 {
-        say(out, b": the script is empty\n");
-        return true;
+    if source.is_empty() {
+        return Some(Fault::EmptyScript);
     }
-    if line.len() == 0 {
-        say(out, b": it is empty\n");
-        return true;
+    let line = line_from(source, start);
+    if line.starts_with(b"\xEF\xBB\xBF") {
+        return Some(Fault::ByteOrderMark);
     }
-    if begins(line, b"\xEF\xBB\xBF") {
-        say(
-            out,
-            b": a byte order mark stands at its start (sed -i '1s/^\\xEF\\xBB\\xBF//' FILE takes it out)\n",
-        );
-        return true;
-    }
-    let first = byte(line, 0);
-    if (first == HASH) | (first == SLASH) | (first == SEMICOLON) {
-        say(out, b": it begins with ");
-        shown(out, &[first]);
-        say(out, b" (a script has no comments)\n");
-        return true;
-    }
-    if first == TAB {
-        say(
-            out,
-            b", field 1: it is empty (a tab stands at the line's start)\n",
-        );
-        return true;
+    match line.first() {
+        None => return Some(Fault::EmptyLine),
+        Some(b'\t') => return Some(Fault::TabAtStart),
+        Some(sign @ (b'#' | b'/' | b';')) => return Some(Fault::Comment(*sign)),
+        Some(_) => {}
     }
     if ends_in_cr(line) {
-        say(
-            out,
-            b": CR stands at its end (sed -i 's/\\r$//' FILE takes it out of every line)\n",
-        );
-        return true;
+        return Some(Fault::CrAtEnd);
     }
-    let at = first_odd(line);
-    if at < line.len() {
-        say(out, b", field ");
-        count(out, part_count(front(line, at), TAB) as u64);
-        odd(out, byte(line, at));
-        return true;
+    for (at, byte) in line.iter().enumerate() {
+        if is_odd(*byte) {
+            return Some(Fault::Odd(part_count(&line[..at], TAB), *byte));
+        }
     }
-    false
-}
-
-fn begins(text: &[u8], start: &[u8]) -> bool {
-    same(front(text, start.len()), start)
+    None
 }
 
 // CR at the end, and at no other place.
 fn ends_in_cr(line: &[u8]) -> bool {
-    let at = text::part_end(line, 0, CR);
-    if at < line.len() {
-        return line.len() - at == 1;
+    match line.strip_suffix(b"\r") {
+        Some(rest) => !rest.contains(&b'\r'),
+        None => false,
     }
-    false
 }
 
 // Neither a tab nor a printable character beside the space.
 fn is_odd(byte: u8) -> bool {
-    (byte != TAB) & ((byte <= SPACE) | (126 < byte))
-}
-
-// The first byte that no line has; the length where there is none.
-fn first_odd(line: &[u8]) -> usize {
-    let mut i = 0;
-    while i < line.len() {
-        if is_odd(byte(line, i)) {
-            return i;
-        }
-        i += 1;
-    }
-    i
-}
-
-fn odd(out: &impl Print, byte: u8) {
-    if byte == SPACE {
-        say(out, b": a space stands in it (one tab parts two fields)\n");
-        return;
-    }
-    if byte == CR {
-        say(out, b": CR stands in it (lines end in LF)\n");
-        return;
-    }
-    say(out, b": the byte ");
-    hex(out, wide(byte), 2);
-    say(out, b" stands in it (a script is ASCII text)\n");
+    !matches!(byte, TAB | b'!'..=b'~')
 }
 
 // A step that is a word alone, also one that the forms do not have.
@@ -186,213 +177,131 @@ fn stands_alone(word: &[u8]) -> bool {
     script::line_of(word).is_some()
 }
 
-// The forms are lines, each with its fields parted by spaces.
-fn step(out: &impl Print, line: &[u8], forms: &[u8]) {
-    let word = field(line, 0);
-    let near = part(forms, LF, nearest(forms, word));
-    let known = part(near, SPACE, 0);
-    if same(known, word) {
-        against(out, line, near);
-        return;
+fn step(out: &impl Print, line: &[u8], word: &[u8]) -> io::Result<()> {
+    let near = nearest(&STEPS, word);
+    if let Some(form) = near {
+        if first_field(form).as_bytes() == word {
+            return against(out, line, form);
+        }
     }
     if stands_alone(word) {
-        against(out, line, word);
-        return;
+        if let Ok(form) = from_utf8(word) {
+            return against(out, line, form);
+        }
     }
-    say(out, b", field 1: ");
-    shown(out, word);
-    say(out, b" is no word");
-    if same(word, b"read") {
-        say(out, b" (write r)\n");
-        return;
+    print!(out; ", field 1: {} is no word", Shown(word))?;
+    match word {
+        b"read" => println!(out; " (write r)"),
+        b"write" => println!(out; " (write w)"),
+        b"wake" => {
+            println!(out;
+                " (the wake pin is a level: write pin and 1, or pin and 0, with a tab between)"
+            )
+        }
+        _ => match near {
+            Some(form) => println!(out; " (the nearest is {})", first_field(form)),
+            None => println!(out),
+        },
     }
-    if same(word, b"write") {
-        say(out, b" (write w)\n");
-        return;
-    }
-    if same(word, b"wake") {
-        say(
-            out,
-            b" (the wake pin is a level: write pin and 1, or pin and 0, with a tab between)\n",
-        );
-        return;
-    }
-    if 0 < known.len() {
-        say(out, b" (the nearest is ");
-        say(out, known);
-        say(out, b")");
-    }
-    say(out, b"\n");
 }
 
-// The first field that a form asks for and the line does not have, missing or other than it is to be; their number where there is none.
-fn first_wrong(line: &[u8], form: &[u8]) -> usize {
-    let due = part_count(form, SPACE);
+// The line's word is the form's: the first field that the form asks for and the line does not have, missing or other than it is to be; or one too many.
+fn against(out: &impl Print, line: &[u8], form: &str) -> io::Result<()> {
     let there = field_count(line);
-    let mut n = 1;
-    while n < due {
+    for (n, name) in form.split(' ').enumerate().skip(1) {
         if there <= n {
-            return n;
+            return println!(out; ": {name} is missing ({form})");
         }
-        if !value_reads(part(form, SPACE, n), field(line, n)) {
-            return n;
+        let value = field(line, n);
+        if !reads(Kind::of(name), value) {
+            print!(out; ", field {}: ", n + 1)?;
+            return value_wrong(out, name, value);
         }
-        n += 1;
     }
-    n
+    let due = form.split(' ').count();
+    if there <= due {
+        return println!(out; " does not read");
+    }
+    print!(out; ", field {}: ", due + 1)?;
+    if field(line, due).is_empty() {
+        println!(out; "it is empty (a tab too many)")
+    } else {
+        println!(out; "a field too many ({form})")
+    }
 }
 
-// The line's word is the form's.
-fn against(out: &impl Print, line: &[u8], form: &[u8]) {
-    let due = part_count(form, SPACE);
-    let there = field_count(line);
-    let n = first_wrong(line, form);
-    if n < due {
-        if there <= n {
-            say(out, b": ");
-            say(out, part(form, SPACE, n));
-            say(out, b" is missing (");
-            say(out, form);
-            say(out, b")\n");
-            return;
+// What a field takes.
+#[derive(Clone, Copy, Debug)]
+enum Kind {
+    // one digit, 0 or 1: the override, and the wake pin's level
+    Flag,
+    // a sleep state: -, or two hex digits
+    State,
+    // in hex, at most this
+    Number(u64),
+}
+
+impl Kind {
+    // By the field's name in a form.
+    fn of(name: &str) -> Kind {
+        match name {
+            "OVERRIDE" | "LEVEL" => Kind::Flag,
+            "S0" | "S1" | "S2" | "S3" | "S4" | "S5" => Kind::State,
+            "EVENT_HOMES" | "CONTROL_HOMES" => Kind::Number(0xFFFF),
+            "WIDTH" | "N" => Kind::Number(0xFFFFFFFF),
+            _ => Kind::Number(0xFFFFFFFFFFFFFFFF),
         }
-        say(out, b", field ");
-        field_number(out, n);
-        say(out, b": ");
-        value_wrong(out, part(form, SPACE, n), field(line, n));
-        return;
     }
-    if due < there {
-        say(out, b", field ");
-        field_number(out, due);
-        if field(line, due).len() == 0 {
-            say(out, b": it is empty (a tab too many)\n");
-            return;
+}
+
+fn reads(kind: Kind, value: &[u8]) -> bool {
+    match kind {
+        Kind::Flag => matches!(value, b"0" | b"1"),
+        Kind::State => matches!(value, b"-") || (value.len() == 2 && hex_value(value).is_some()),
+        Kind::Number(most) => hex_value(value).is_some_and(|n| n <= most),
+    }
+}
+
+fn value_wrong(out: &impl Print, name: &str, value: &[u8]) -> io::Result<()> {
+    if value.is_empty() {
+        return println!(out; "{name} is empty (one tab parts two fields)");
+    }
+    let shown = Shown(value);
+    match Kind::of(name) {
+        Kind::Flag => println!(out; "{shown} is no {name} (write 0 or 1)"),
+        Kind::State => {
+            println!(out;
+                "{shown} is no {name} (write - or two hex digits, the SLP_TYP of block A and of block B)"
+            )
         }
-        say(out, b": a field too many (");
-        say(out, form);
-        say(out, b")\n");
-        return;
+        Kind::Number(most) if hex_value(value).is_some() => {
+            println!(out; "{shown} does not fit {name} (at most {most:X})")
+        }
+        Kind::Number(_) => no_number(out, value),
     }
-    say(out, b" does not read\n");
 }
 
-// The largest number that a field takes, by its name.
-fn largest(name: &[u8]) -> u64 {
-    if same(name, b"EVENT_HOMES") {
-        return 0xFFFF;
-    }
-    if same(name, b"CONTROL_HOMES") {
-        return 0xFFFF;
-    }
-    if same(name, b"WIDTH") {
-        return 0xFFFFFFFF;
-    }
-    if same(name, b"N") {
-        return 0xFFFFFFFF;
-    }
-    0xFFFFFFFFFFFFFFFF
-}
-
-// A sleep state's name has two letters, and no other field's has.
-fn is_state(name: &[u8]) -> bool {
-    name.len() == 2
-}
-
-// The fields that are one digit, 0 or 1: the override, and the wake pin's level.
-fn is_flag(name: &[u8]) -> bool {
-    same(name, b"OVERRIDE") | same(name, b"LEVEL")
-}
-
-fn value_reads(name: &[u8], value: &[u8]) -> bool {
-    if is_flag(name) {
-        return same(value, b"0") | same(value, b"1");
-    }
-    if is_state(name) {
-        return same(value, b"-") | ((value.len() == 2) & hex_value(value).is_some());
-    }
-    hex_value(value).is_some_and(|n| n <= largest(name))
-}
-
-fn value_wrong(out: &impl Print, name: &[u8], value: &[u8]) {
-    if value.len() == 0 {
-        say(out, name);
-        say(out, b" is empty (one tab parts two fields)\n");
-        return;
-    }
-    shown(out, value);
-    if is_flag(name) {
-        say(out, b" is no ");
-        say(out, name);
-        say(out, b" (write 0 or 1)\n");
-        return;
-    }
-    if is_state(name) {
-        say(out, b" is no ");
-        say(out, name);
-        say(
-            out,
-            b" (write - or two hex digits, the SLP_TYP of block A and of block B)\n",
+fn no_number(out: &impl Print, value: &[u8]) -> io::Result<()> {
+    let shown = Shown(value);
+    let Some(at) = value.iter().position(|b| !b.is_ascii_hexdigit()) else {
+        return println!(out;
+            "{shown} has {} digits (a number has 16 at most)",
+            value.len()
         );
-        return;
-    }
-    if hex_value(value).is_some() {
-        say(out, b" does not fit ");
-        say(out, name);
-        say(out, b" (at most ");
-        say_largest(out, largest(name));
-        say(out, b")\n");
-        return;
-    }
-    no_number(out, value);
-}
-
-fn say_largest(out: &impl Print, n: u64) {
-    if n == 0xFFFF {
-        say(out, b"FFFF");
-    } else {
-        hex(out, n, 8);
-    }
-}
-
-fn no_number(out: &impl Print, value: &[u8]) {
-    let at = first_no_digit(value);
-    if value.len() <= at {
-        say(out, b" has ");
-        count(out, value.len() as u64);
-        say(out, b" digits (a number has 16 at most)\n");
-        return;
-    }
-    say(out, b" is no hex number");
-    if begins(value, b"0x") | begins(value, b"0X") {
-        instead(out, line_from(value, 2));
-    } else if same(line_from(value, at), b"h") | same(line_from(value, at), b"H") {
-        instead(out, front(value, at));
-    } else {
-        say(out, b" (");
-        shown(out, &[byte(value, at)]);
-        say(out, b" is no hex digit)\n");
+    };
+    print!(out; "{shown} is no hex number")?;
+    let (digits, rest) = value.split_at(at);
+    match (value, rest) {
+        ([b'0', b'x' | b'X', meant @ ..], _) => instead(out, meant),
+        (_, b"h" | b"H") => instead(out, digits),
+        (_, _) => println!(out; " ({} is no hex digit)", Shown(&rest[..1])),
     }
 }
 
 // What to write, where it is a number.
-fn instead(out: &impl Print, digits: &[u8]) {
+fn instead(out: &impl Print, digits: &[u8]) -> io::Result<()> {
     if hex_value(digits).is_some() {
-        say(out, b" (write ");
-        say(out, digits);
-        say(out, b")");
+        print!(out; " (write {})", Shown(digits))?;
     }
-    say(out, b"\n");
-}
-
-// The first byte that is no hex digit; the length where there is none.
-fn first_no_digit(value: &[u8]) -> usize {
-    let mut i = 0;
-    while i < value.len() {
-        if text::digit_of(byte(value, i)).is_none() {
-            return i;
-        }
-        i += 1;
-    }
-    i
+    println!(out)
 }

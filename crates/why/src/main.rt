@@ -12,77 +12,63 @@ mod state;
 mod table;
 mod words;
 
-ghost use Rattle.std.specs.Prelude.{◌≡◌, ◌+◌, length};
-ghost use Rattle.session.specs.Session.{limit};
-
 use session::{EndRefusal, LIMIT, SessionRefusal};
 use std::fs::{File, Files};
+use std::io;
 use std::io::Read;
 
-// One byte more than a script may have, to see that it is longer.
-fn script_buffer() -> [u8; LIMIT + 1]
-    ensures { limit + 1 ≡ length result }
-{
-    [0; LIMIT + 1]
+fn main(rt: HostRuntime) {
+    // What cannot be written is left out.
+    let _ = tell_all(&rt, &mut rt.stdin());
 }
 
-fn main(rt: HostRuntime) {
-    let mut input = rt.stdin();
-    let opened = File::open(&rt, "platform.fadt");
+fn tell_all(rt: &(impl Files + Print), input: &mut impl Read) -> io::Result<()> {
+    let opened = File::open(rt, "platform.fadt");
     if opened.is_err() {
-        without_table(&rt, &mut input);
-        return;
+        return without_table(rt, input);
     }
-    // The file is closed before the script is read.
     let mut table = files::large_buffer();
+    // The file is closed before the script is read.
     let table_length = files::read_opened(opened, &mut table);
-    let mut script = script_buffer();
-    let script_length = files::read_full(&mut input, &mut script);
-    if !at_end(&mut input, script_length) {
-        say::say(&rt, b"the script cannot be read to its end\n");
-        return;
-    }
+    let table = &table[..table_length];
+    let mut script = [0; LIMIT + 1];
+    let Some(script_length) = files::read_whole(input, &mut script) else {
+        return println!(rt; "the script cannot be read to its end");
+    };
     let source = &script[..script_length];
     // Room is judged last: no room for the listing means that all of it reads.
-    let mut listing = [0u8; 1];
-    let answer = session::session(&table[..table_length], source, &mut listing);
-    tell(&rt, answer, &table[..table_length], source);
+    let mut listing = [0; 1];
+    let answer = session::session(table, source, &mut listing);
+    tell(rt, answer, table, source)
 }
 
-fn without_table(rt: &(impl Files + Print), input: &mut impl Read) {
+fn without_table(rt: &(impl Files + Print), input: &mut impl Read) -> io::Result<()> {
     let opened = File::open(rt, "state");
     if opened.is_err() {
-        say::say(rt, b"the file platform.fadt does not open\n");
-        return;
+        return println!(rt; "the file platform.fadt does not open");
     }
-    let mut text = script_buffer();
+    let mut text = [0; LIMIT + 1];
     let text_length = files::read_opened(opened, &mut text);
-    let mut steps = script_buffer();
-    let steps_length = files::read_full(input, &mut steps);
-    if !at_end(input, steps_length) {
-        say::say(rt, b"the steps cannot be read to their end\n");
-        return;
-    }
-    state::tell(rt, &text[..text_length], &steps[..steps_length]);
+    let mut steps = [0; LIMIT + 1];
+    let Some(steps_length) = files::read_whole(input, &mut steps) else {
+        return println!(rt; "the steps cannot be read to their end");
+    };
+    state::tell(rt, &text[..text_length], &steps[..steps_length])
 }
 
-// Whether nothing is left to read, after so many bytes; a script that fills its buffer is too long in any case.
-fn at_end(input: &mut impl Read, length: usize) -> bool {
-    if LIMIT < length {
-        return true;
-    }
-    files::is_at_end(input)
-}
-
-fn tell(out: &impl Print, answer: Result<usize, SessionRefusal>, table: &[u8], source: &[u8]) {
+fn tell(
+    out: &impl Print,
+    answer: Result<usize, SessionRefusal>,
+    table: &[u8],
+    source: &[u8],
+) -> io::Result<()> {
     match answer {
         Ok(_) | Err(SessionRefusal::NoRoom) => all_is_well(out, source),
         Err(SessionRefusal::NoEnd(EndRefusal::PlatformLine)) => line::platform_unread(out, source),
         Err(SessionRefusal::NoEnd(EndRefusal::SetUp(refusal))) => {
-            say::say(out, b"setting up is refused: ");
-            say::count(out, platform::refusal_number(refusal) as u64);
-            say::say(out, b", ");
-            table::closer(out, refusal, table, text::line_from(source, 0));
+            let number = platform::refusal_number(refusal);
+            print!(out; "setting up is refused: {number}, ")?;
+            table::closer(out, refusal, table, text::line_from(source, 0))
         }
         Err(SessionRefusal::NoEnd(EndRefusal::Line(line))) => {
             line::step_unread(out, source, line, true)
@@ -91,14 +77,9 @@ fn tell(out: &impl Print, answer: Result<usize, SessionRefusal>, table: &[u8], s
 }
 
 // All lines but the platform line are steps.
-fn all_is_well(out: &impl Print, source: &[u8]) {
-    let lines = text::line_count(source);
-    let steps = if 0 < lines { lines - 1 } else { 0 };
-    say::say(out, b"all is well: ");
-    say::count(out, steps as u64);
-    if steps == 1 {
-        say::say(out, b" step\n");
-    } else {
-        say::say(out, b" steps\n");
+fn all_is_well(out: &impl Print, source: &[u8]) -> io::Result<()> {
+    match text::line_count(source).saturating_sub(1) {
+        1 => println!(out; "all is well: 1 step"),
+        steps => println!(out; "all is well: {steps} steps"),
     }
 }

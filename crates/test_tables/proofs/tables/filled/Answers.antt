@@ -11,13 +11,14 @@ filled-end : (t : List ℕ) (fs : List (List ℕ)) (i : ℕ) → length fs ≤ i
 unfolding filled_of
 filled-end t fs i h = rw (drop_of_length-le fs h)
 
-pub loop-i-preserved : goal.loop-i-preserved
-loop-i-preserved c =
+pub loop-field-preserved : goal.loop-field-preserved
+loop-field-preserved c =
     let fs : List (List ℕ) = c.args.fields.now in
-    ap (λ (t : List ℕ). filled_of t (drop (c.loop-i.i + 1) fs)) c.put-next.ensures ∙
-    sym (filled-turn c.loop-i.t fs c.loop-i.i (omega arith)) ∙
-    c.loop-i.invariant
+    let i = c.loop-field.field-index in
+    ap (λ (t : List ℕ). filled_of t (drop (i + 1) fs)) c.put-next.ensures ∙
+    sym (filled-turn c.loop-field.t fs i (omega arith)) ∙
+    c.loop-field.invariant
 
 pub returns : goal.returns
 returns c =
-    sym (filled-end c.loop-i.t c.args.fields.now c.loop-i.i (omega arith)) ∙ c.loop-i.invariant
+    sym (filled-end c.loop-field.t c.args.fields.now c.loop-field.field-index (omega arith)) ∙ c.loop-field.invariant

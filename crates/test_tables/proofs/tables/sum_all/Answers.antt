@@ -10,7 +10,7 @@ sum-append (x ∷ xs) ys = let e = sum-append xs ys in omega arith
 sum_more : (xs : List ℕ) (i : ℕ) → i < length xs → sum (take (i + 1) xs) ≡ sum (take i xs) + get_or xs i 0
 sum_more xs i h = rw (add-one, take-suc xs i 0 h, sum-append) (omega arith)
 
-pub loop-i-preserved : goal.loop-i-preserved
-loop-i-preserved c =
-    let more = sum_more c.args.bytes.now c.loop-i.i (omega arith) in
-    omega (arith, more, c.wrapping_add_u8-total.ensures, c.loop-i.invariant)
+pub loop-byte-preserved : goal.loop-byte-preserved
+loop-byte-preserved c =
+    let more = sum_more c.args.bytes.now c.loop-byte.byte-index (omega arith) in
+    omega (arith, more, c.loop-byte.invariant)

@@ -3,4 +3,4 @@ use Rattle.test_tables.proofs.tables.summing_to.Goals as goal
 
 pub returns : goal.returns
 unfolding summing_to
-returns c = simp (c.low_byte.ensures, c.sum_of-others.ensures, c.wide-n.ensures)
+returns c = simp (c.low_byte.ensures, c.sum_of-others.ensures)
