@@ -1,5 +1,4 @@
 -- How the program's table says the rows.
-use Rattle.std.specs.Prelude.{List, ℕ}
 use Rattle.records.specs.Rows.{Row}
 use Rattle.records.specs.declared.table.Record.{Record}
 

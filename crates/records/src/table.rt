@@ -147,7 +147,11 @@ impl Record {
     pub(crate) fn length_in(&self, edition: u64) -> usize
         ensures { result ≡ length_in edition (row_of self.now) }
     {
-        if self.is_in(edition) { self.length() } else { 0 }
+        if self.is_in(edition) {
+            self.length()
+        } else {
+            0
+        }
     }
 
     // The record, if the edition has it; the answer is how many bytes that is.

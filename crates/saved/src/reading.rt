@@ -32,17 +32,15 @@ fn edition_of(line: &[u8]) -> u64
 fn agreeing(left: &[u8], right: &[u8]) -> usize
     ensures { result ≡ agreeing left.now right.now }
 {
-    let mut i = 0;
-    while i < left.len() {
+    for (i, x) in left.iter().enumerate() {
         if right.len() <= i {
             return i;
         }
-        if left[i] != right[i] {
+        if *x != right[i] {
             return i;
         }
-        i += 1;
     }
-    i
+    left.len()
 }
 
 // The line in which a text first differs from another.

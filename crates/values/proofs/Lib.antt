@@ -1,4 +1,3 @@
-pub mod Joined
 pub mod Back
 pub mod RoundTrip
 pub mod Agree

@@ -1,5 +1,5 @@
 // The values of a machine.
-ghost use Rattle.std.specs.Prelude.{◌≡◌, ◌++◌, ◌+◌, ◌*◌, ◌^◌, get_or};
+ghost use Rattle.std.specs.Prelude.{◌≡◌, ◌++◌, ◌+◌, ◌*◌, ◌^◌};
 ghost use Rattle.acpi.specs.Bits.{ARB_DIS};
 ghost use Rattle.registers.specs.Registers.{bit_when};
 ghost use Rattle.values.specs.Values.{flag_value, pair_value, settings_values, command_value, machine_values, values_of};
@@ -7,24 +7,6 @@ ghost use Rattle.values.specs.Values.{flag_value, pair_value, settings_values, c
 use acpi::ARB_DIS;
 use machine::Machine;
 use platform::Settings;
-
-fn wide8(x: u8) -> u64
-    ensures { result ≡ x }
-{
-    x as u64
-}
-
-fn wide16(x: u16) -> u64
-    ensures { result ≡ x }
-{
-    x as u64
-}
-
-fn wide32(x: u32) -> u64
-    ensures { result ≡ x }
-{
-    x as u64
-}
 
 fn flag_value(b: bool) -> u64
     ensures { result ≡ flag_value b }
@@ -36,7 +18,7 @@ fn flag_value(b: bool) -> u64
 fn two_bytes(a: u8, b: u8) -> u64
     ensures { result ≡ a * 2 ^ 8 + b }
 {
-    (a as u64) * 256 + b as u64
+    u64::from(a) * 256 + u64::from(b)
 }
 
 fn pair_value(p: [u8; 2]) -> u64
@@ -48,7 +30,7 @@ fn pair_value(p: [u8; 2]) -> u64
 fn command_value(waits: bool, command: u32) -> u64
     ensures { result ≡ command_value waits command }
 {
-    if waits { 256 + command as u64 } else { 0 }
+    if waits { 256 + u64::from(command) } else { 0 }
 }
 
 fn arb_dis_value(arb_dis: bool) -> u64
@@ -73,8 +55,8 @@ fn settings_values(s: Settings) -> [u64; 28]
     let pairs = sleep.pairs();
     [
         s.smi_cmd,
-        wide8(s.acpi_enable),
-        wide8(s.acpi_disable),
+        u64::from(s.acpi_enable),
+        u64::from(s.acpi_disable),
         pm1a_evt.address,
         pm1b_evt.address,
         pm1a_cnt.address,
@@ -83,16 +65,16 @@ fn settings_values(s: Settings) -> [u64; 28]
         pm_tmr.address,
         gpe0.address,
         gpe1.address,
-        wide32(pm1a_evt.length),
-        wide32(pm1a_cnt.length),
-        wide32(pm2_cnt.length),
-        wide32(pm_tmr.length),
-        wide32(gpe0.length),
-        wide32(gpe1.length),
-        wide8(s.gpe1_base),
-        wide32(s.flags),
-        wide16(s.event_homes),
-        wide16(s.control_homes),
+        u64::from(pm1a_evt.length),
+        u64::from(pm1a_cnt.length),
+        u64::from(pm2_cnt.length),
+        u64::from(pm_tmr.length),
+        u64::from(gpe0.length),
+        u64::from(gpe1.length),
+        u64::from(s.gpe1_base),
+        u64::from(s.flags),
+        u64::from(s.event_homes),
+        u64::from(s.control_homes),
         flag_value(s.power_override),
         pair_value(pairs[0]),
         pair_value(pairs[1]),
@@ -109,48 +91,31 @@ fn machine_values(m: Machine) -> [u64; 15]
 {
     let s = m.settings;
     [
-        wide16(registers::status_register(s, m.pm1_sts, false)),
-        wide16(registers::status_register(s, m.pm1_sts, true)),
-        wide16(registers::enable_register(s, m.pm1_en, false)),
-        wide16(registers::enable_register(s, m.pm1_en, true)),
-        wide32(registers::control_register(s, m.scalars(), false)),
-        wide32(registers::control_register(s, m.scalars(), true)),
+        u64::from(registers::status_register(s, m.pm1_sts, false)),
+        u64::from(registers::status_register(s, m.pm1_sts, true)),
+        u64::from(registers::enable_register(s, m.pm1_en, false)),
+        u64::from(registers::enable_register(s, m.pm1_en, true)),
+        u64::from(registers::control_register(s, m.scalars(), false)),
+        u64::from(registers::control_register(s, m.scalars(), true)),
         arb_dis_value(m.arb_dis),
-        wide32(m.counter),
-        wide32(m.hold),
+        u64::from(m.counter),
+        u64::from(m.hold),
         flag_value(m.button),
         command_value(m.command_waits, m.command),
         flag_value(m.gbl_rls),
         flag_value(m.armed),
-        wide8(m.state),
+        u64::from(m.state),
         flag_value(m.wake_pin),
     ]
-}
-
-// Value i of the two lists, one after the other.
-fn value_at(first: &[u64], then: &[u64], i: usize) -> u64
-    ensures { result ≡ get_or (first.now ++ then.now) i 0 }
-{
-    let n = first.len();
-    if i < n {
-        return first[i];
-    }
-    let j = i - n;
-    if j < then.len() {
-        return then[j];
-    }
-    0
 }
 
 fn joined(first: [u64; 28], then: [u64; 15]) -> [u64; crate::VALUES]
     ensures { result ≡ first ++ then }
 {
     let mut all = [0u64; crate::VALUES];
-    let mut i = 0;
-    while i < crate::VALUES {
-        all[i] = value_at(&first, &then, i);
-        i += 1;
-    }
+    let (settings, machine) = all.split_at_mut(28);
+    settings.copy_from_slice(&first);
+    machine.copy_from_slice(&then);
     all
 }
 

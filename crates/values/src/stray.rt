@@ -10,14 +10,12 @@ use machine::Machine;
 fn agreeing(left: [u64; crate::VALUES], right: [u64; crate::VALUES]) -> usize
     ensures { result ≡ agreeing left right }
 {
-    let mut i = 0;
-    while i < crate::VALUES {
+    for i in 0..crate::VALUES {
         if left[i] != right[i] {
             return i;
         }
-        i += 1;
     }
-    i
+    crate::VALUES
 }
 
 // The place of the first value that is not the machine's.

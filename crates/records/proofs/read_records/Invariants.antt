@@ -2,7 +2,7 @@
 -- place and the bytes that are left come to the end, so that the place cannot wrap. Assumes nothing.
 use mathlib.Core.List.{◌++◌}
 use mathlib.Core.Path.{◌≡◌}
-use Prim.Native.Nat.{◌+◌, ◌-◌}
+use Prim.Native.Nat.{◌+◌}
 use lib.ListN.{length, take, drop}
 use Rattle.records.specs.Rows.{row_count, rows}
 use Rattle.records.specs.Records.{records_length, values_in}

@@ -5,7 +5,6 @@ use native.Mathlib.Omega.{arith}
 use lib.ListN.{length, get_or, get_or-eq_default}
 use lib.Seq.{sets}
 use Rattle.records.specs.Rows.{Row, rows, no_row, row_count}
-use Rattle.records.specs.Table.{row_of}
 use Rattle.records.proofs.Said.{table-count, row_said}
 use Rattle.records.proofs.RowFacts.{row_count_lem}
 use Rattle.records.proofs.write_name.Goals as goal

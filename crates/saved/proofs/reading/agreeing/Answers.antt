@@ -7,14 +7,14 @@ returns-then-right-i c =
     let none = second-ends c.args.left.now c.args.right.now c.loop-i.i (omega arith) in
     omega (arith, none, c.loop-i.invariant)
 
-pub returns-then-left-i : goal.returns-then-left-i
-returns-then-left-i c =
-    let none = differs-here c.args.left.now c.args.right.now c.loop-i.i (omega arith) (omega arith) c.if-left-i.true in
+pub returns-then-x-right : goal.returns-then-x-right
+returns-then-x-right c =
+    let none = differs-here c.args.left.now c.args.right.now c.loop-i.i (omega arith) (omega arith) c.if-x-right.true in
     omega (arith, none, c.loop-i.invariant)
 
 pub loop-i-preserved : goal.loop-i-preserved
 loop-i-preserved c =
-    let one = agrees-here c.args.left.now c.args.right.now c.loop-i.i (omega arith) (omega arith) c.if-left-i.false in
+    let one = agrees-here c.args.left.now c.args.right.now c.loop-i.i (omega arith) (omega arith) c.if-x-right.false in
     omega (arith, one, c.loop-i.invariant)
 
 pub returns : goal.returns

@@ -8,6 +8,3 @@ use Rattle.saved.proofs.reading.agreeing.Given as goal
 
 abbrev pub invariant-loop-i : goal.invariant-loop-i
 invariant-loop-i l = l.i + agreeing (drop l.i l.left) (drop l.i l.right) ≡ agreeing l.left l.right
-
-abbrev pub decreases-loop-i : goal.decreases-loop-i
-decreases-loop-i l = length l.left - l.i

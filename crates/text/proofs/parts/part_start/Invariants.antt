@@ -1,8 +1,8 @@
 -- `text::parts::part_start` meets its contract. The loop's invariant: passing what is left of the stops from here leads where all of them lead from the start.
 -- Assumes nothing.
 use mathlib.Core.Path.{◌≡◌}
-use Prim.Native.Nat.{◌+◌, ◌-◌}
-use lib.ListN.{length, drop}
+use Prim.Native.Nat.{◌+◌}
+use lib.ListN.{drop}
 use Rattle.text.specs.Parts.{past_stops}
 use Rattle.text.proofs.parts.part_start.Given as goal
 

@@ -1,7 +1,7 @@
 -- `text::writes::write_text` meets its contract. The loop's invariant: what is left, written into the buffer as it is, gives what the whole gives
 -- from the start. Assumes nothing.
 use mathlib.Core.Path.{◌≡◌}
-use Prim.Native.Nat.{◌+◌, ◌-◌}
+use Prim.Native.Nat.{◌+◌}
 use lib.ListN.{length, drop}
 use lib.Seq.{sets}
 use Rattle.text.proofs.writes.write_text.Given as goal
