@@ -1,7 +1,7 @@
 // The pairs of sleep type values of S0 to S5: rule 12, and the state that a pair names.
 #![tactic(auto)]
 
-ghost use Rattle.std.specs.Prelude.{◌≡◌, [], ◌∷◌, position};
+ghost use Rattle.std.specs.Prelude.{◌≡◌, [], ◌∷◌, drop, position};
 ghost use Rattle.lists.specs.Any.{any, any_two};
 ghost use Rattle.sleep.specs.Pairs.{sleep_table, absent, out_of_range, same_pair, shared, sleep_refused, named, state_of};
 
