@@ -8,7 +8,7 @@ use native.Mathlib.Nat.{min-le_right, le_trans}
 use borrow.Author.Tests.{le-leb, lt-leb}
 use lib.Dec.{leb, lit≤}
 use Prim.Native.Nat.{ℕ, ◌+◌, ◌*◌, ◌/◌, ◌^◌, ◌≤◌, ◌<◌}
-use lib.ListN.{length, take, length-append}
+use lib.ListN.{length, take, get_or, length-append}
 use lib.Seq.{sets, length-take-le}
 use Rattle.text.specs.Parts.{tab, lf}
 use Rattle.text.proofs.Stores.{sets-append, sets_then, sets-there}
@@ -21,8 +21,7 @@ use Rattle.records.specs.Records.{is_in, record_length, records_length, records_
 use Rattle.records.specs.Rows.{Row, rows}
 use Rattle.records.proofs.ReadBack.{records-length}
 use Rattle.machine.specs.declared.Machine.{Machine}
-use Rattle.values.specs.Values.{values_of}
-use Rattle.saved.specs.Text.{newest, edition_line, own_bytes, gpe_text, records_at, gpe_at, saved_text, write_answer, written_buffer}
+use Rattle.saved.specs.Text.{newest, Parts, parts_of, own0, own1, text_of, edition_line, own_bytes, gpe_text, records_at, gpe_at, saved_text, write_answer, written_buffer}
 use Rattle.std.specs.Prelude.{Ok, Err}
 use Rattle.saved.specs.declared.WriteRefusal.TheVariants as refusal
 use Rattle.records.proofs.ByteLaws.{bytes-length}
@@ -159,41 +158,40 @@ text-length vs gpe edition =
 pub own-small : (x : ℕ) → own_bytes x ≤ 8
 own-small x = min-le_right (x / 2) 8
 
--- a machine's text is as long as its length says
-module _ (m : Machine) (own own' at n : ℕ)
-    (a : own ≡ own_bytes m.settings.gpe0.length) (b : own' ≡ own_bytes m.settings.gpe1.length) (d : at ≡ gpe_at newest)
-    (c : n ≡ at + length (gpe_text own own' m.gpe0_sts m.gpe0_en m.gpe1_sts m.gpe1_en)) where
+-- a machine's text, whose parts and length these are
+module _ (m : Machine) (p : Parts) (n : ℕ) (a : p ≡ parts_of m) (c : n ≡ length (text_of newest p)) where
   saved-length : length (saved_text m) ≡ n
   unfolding saved_text
-  saved-length =
-      rw (sym a, sym b)
-      (text-length (values_of m) (gpe_text own own' m.gpe0_sts m.gpe0_en m.gpe1_sts m.gpe1_en) newest ∙ rw (← d) (sym c))
+  saved-length = ap (λ (q : Parts). length (text_of newest q)) (sym a) ∙ sym c
 
   -- where it fits it is written, and where it does not nothing is
-  pub write-fits : (buffer l vs : List ℕ) → n ≤ length buffer → vs ≡ values_of m
-      → l ≡ sets buffer 0 (edition_line newest ++ (lf ∷ (records_text newest rows vs ++ gpe_text own own' m.gpe0_sts m.gpe0_en m.gpe1_sts m.gpe1_en)))
+  pub write-fits : (buffer l : List ℕ) → n ≤ length buffer → l ≡ sets buffer 0 (text_of newest p)
       → (Ok n ≡ write_answer m (length buffer)) × (l ≡ written_buffer m buffer)
   unfolding saved_text
-  write-fits buffer l vs f v e =
+  write-fits buffer l f e =
       let fits : leb (length (saved_text m)) (length buffer) ≡ true = rw saved-length (le-leb n (length buffer) f) in
-      (rw (fits, saved-length) refl, rw fits (e ∙ simp (v, a, b)))
+      (rw (fits, saved-length) refl, rw fits (e ∙ ap (λ (q : Parts). sets buffer 0 (text_of newest q)) a))
 
   pub write-refused : (buffer : List ℕ) → length buffer < n → (Err refusal.NoRoom ≡ write_answer m (length buffer)) × (buffer ≡ written_buffer m buffer)
   write-refused buffer f =
       let none : leb (length (saved_text m)) (length buffer) ≡ false = rw saved-length (lt-leb n (length buffer) f) in
       (rw none refl, rw none refl)
 
--- a text that was printed into an empty buffer, and read from it again
-module _ (edition at own own' n : ℕ) (vs s e s' e' : List ℕ) (a : at ≡ gpe_at edition) (small : edition < 2 ^ 64) (h : own ≤ 8) (k : own' ≤ 8)
-    (l₁ : length s ≡ 8) (l₂ : length e ≡ 8) (l₃ : length s' ≡ 8) (l₄ : length e' ≡ 8) (c : n ≡ at + length (gpe_text own own' s e s' e')) where
-  pub printed-short : n ≤ 1024
-  printed-short =
-      omega (arith, gpe-at-short edition small, gpe-length s e s' e' own own' (omega arith) (omega arith) (omega arith) (omega arith))
+-- a text of an edition
+module _ (edition : ℕ) (p : Parts) (l₁ : length p.gpe0_sts ≡ 8) (l₂ : length p.gpe0_en ≡ 8) (l₃ : length p.gpe1_sts ≡ 8) (l₄ : length p.gpe1_en ≡ 8) where
+  -- its length
+  pub printed-length : length (text_of edition p) ≡ gpe_at edition + (38 + (own0 p.values * 4 + own1 p.values * 4))
+  printed-length =
+      let h = own-small (get_or p.values 15 0) in
+      let k = own-small (get_or p.values 16 0) in
+      let gpe = gpe_text (own0 p.values) (own1 p.values) p.gpe0_sts p.gpe0_en p.gpe1_sts p.gpe1_en in
+      text-length p.values gpe edition
+      ∙ ap (λ (x : ℕ). gpe_at edition + x) (gpe-length p.gpe0_sts p.gpe0_en p.gpe1_sts p.gpe1_en (own0 p.values) (own1 p.values) (omega arith) (omega arith) (omega arith) (omega arith))
 
-  abbrev whole : List ℕ
-  whole = edition_line edition ++ (lf ∷ (records_text edition rows vs ++ gpe_text own own' s e s' e'))
+  -- printed into an empty buffer, and read from it again
+  module _ (small : edition < 2 ^ 64) (n : ℕ) (c : n ≡ length (text_of edition p)) where
+    pub printed-short : n ≤ 1024
+    printed-short = omega (arith, c, gpe-at-short edition small, printed-length, own-small (get_or p.values 15 0), own-small (get_or p.values 16 0))
 
-  pub printed-whole : (l empty : List ℕ) → length empty ≡ 1024 → l ≡ sets empty 0 whole → take n l ≡ whole
-  printed-whole l empty room p =
-      let long : length whole ≡ n = text-length vs (gpe_text own own' s e s' e') edition ∙ rw (← a) (sym c) in
-      rw (p, ← long) (sets-there empty 0 whole (omega (arith, printed-short, long, room)))
+    pub printed-whole : (l empty : List ℕ) → length empty ≡ 1024 → l ≡ sets empty 0 (text_of edition p) → take n l ≡ text_of edition p
+    printed-whole l empty room e = rw (e, c) (sets-there empty 0 (text_of edition p) (omega (arith, printed-short, c, room)))

@@ -11,6 +11,7 @@ use Rattle.records.specs.Bytes.{bytes_text}
 use Rattle.machine.specs.PowerOn.{gpe_bytes}
 use Rattle.machine.specs.declared.Machine.{Machine}
 use Rattle.values.specs.Values.{values_of}
+pub use Rattle.saved.specs.declared.print.Parts.{Parts}
 use Rattle.saved.specs.declared.WriteRefusal.{WriteRefusal}
 use Rattle.saved.specs.declared.WriteRefusal.TheVariants as refusal
 
@@ -19,13 +20,6 @@ abbrev pub newest : ℕ
 newest = 2
 
 -- what a text says: the values of its records, and the general event bytes
-pub record Parts : Type 0 where
-  pub values : List ℕ
-  pub gpe0_sts : List ℕ
-  pub gpe0_en : List ℕ
-  pub gpe1_sts : List ℕ
-  pub gpe1_en : List ℕ
-
 abbrev pub parts : List ℕ → List ℕ → List ℕ → List ℕ → List ℕ → Parts
 parts vs gpe0_sts gpe0_en gpe1_sts gpe1_en =
     record { values = vs; gpe0_sts = gpe0_sts; gpe0_en = gpe0_en; gpe1_sts = gpe1_sts; gpe1_en = gpe1_en }

@@ -2,10 +2,10 @@
 ghost use Rattle.std.specs.Prelude.{◌≡◌, cond, ◌+◌, ◌≤◌, eqb};
 ghost use Rattle.records.specs.Rows.{row_count};
 ghost use Rattle.values.specs.Agree.{agreeing};
-ghost use Rattle.saved.specs.Text.{newest, own0 as own0_of, own1 as own1_of, parts, text_of, gpe_at};
-ghost use Rattle.saved.specs.Reading.{edition_up_to, malformed_line, text_answer, legal_answer, parts_in, read_as, read_parts, read_of};
+ghost use Rattle.saved.specs.Text.{newest, text_of};
+ghost use Rattle.saved.specs.Reading.{edition_up_to, malformed_line, text_answer, legal_answer, parts_in, machine_of, read_as, read_parts, read_of};
 
-use crate::print::{gpe_at, own, print, records_at, text_length};
+use crate::print::{Parts, gpe_at, own, print, records_at, text_length};
 use crate::{ReadBack, ReadRefusal};
 use legality::Legality;
 use machine::{GPE_BYTES, Machine, all_zero};
@@ -88,35 +88,12 @@ fn compare(text: &[u8], printed: &[u8]) -> Result<(), ReadRefusal>
 }
 
 // The parts printed, and the text compared with that.
-fn judge_text(
-    text: &[u8],
-    edition: u64,
-    values: [u64; RECORDS],
-    at: usize,
-    own0: usize,
-    own1: usize,
-    gpe0_sts: [u8; GPE_BYTES],
-    gpe0_en: [u8; GPE_BYTES],
-    gpe1_sts: [u8; GPE_BYTES],
-    gpe1_en: [u8; GPE_BYTES],
-) -> Result<(), ReadRefusal>
-    requires { (at ≡ gpe_at edition) × ((own0 ≡ own0_of values) × (own1 ≡ own1_of values)) }
-    ensures { result ≡ text_answer text.now (text_of edition (parts values gpe0_sts gpe0_en gpe1_sts gpe1_en)) }
+fn judge_text(text: &[u8], edition: u64, parts: Parts) -> Result<(), ReadRefusal>
+    ensures { result ≡ text_answer text.now (text_of edition parts) }
 {
     let mut printed = [0u8; ROOM];
-    let n = text_length(at, own0, own1, gpe0_sts, gpe0_en, gpe1_sts, gpe1_en);
-    print(
-        &mut printed,
-        edition,
-        values,
-        at,
-        own0,
-        own1,
-        gpe0_sts,
-        gpe0_en,
-        gpe1_sts,
-        gpe1_en,
-    );
+    let n = text_length(edition, parts);
+    print(&mut printed, edition, parts);
     compare(text, &printed[..n])
 }
 
@@ -128,8 +105,9 @@ fn read_as(answer: Result<(), ReadRefusal>, m: Machine) -> ReadBack
     ReadBack { answer, machine }
 }
 
-fn read_in(text: &[u8], edition: u64) -> ReadBack
-    ensures { result ≡ read_parts edition text.now (parts_in edition text.now) }
+// What a text of an edition says, by its places, whatever its bytes.
+fn parts_in(text: &[u8], edition: u64) -> Parts
+    ensures { result ≡ parts_in edition text.now }
 {
     let values = read_records(text, records_at(edition), edition);
     let own0 = own(values[15]);
@@ -138,41 +116,35 @@ fn read_in(text: &[u8], edition: u64) -> ReadBack
     let en0 = at + (10 + own0 * 2);
     let sts1 = en0 + (9 + own0 * 2);
     let en1 = sts1 + (10 + own1 * 2);
-    read_parts(
-        text,
-        edition,
+    Parts {
         values,
-        at,
-        own0,
-        own1,
-        read_bytes(text, at + 9, own0),
-        read_bytes(text, en0 + 8, own0),
-        read_bytes(text, sts1 + 9, own1),
-        read_bytes(text, en1 + 8, own1),
+        gpe0_sts: read_bytes(text, at + 9, own0),
+        gpe0_en: read_bytes(text, en0 + 8, own0),
+        gpe1_sts: read_bytes(text, sts1 + 9, own1),
+        gpe1_en: read_bytes(text, en1 + 8, own1),
+    }
+}
+
+fn machine_of(parts: Parts) -> Machine
+    ensures { result ≡ machine_of parts }
+{
+    machine_from(
+        parts.values,
+        parts.gpe0_sts,
+        parts.gpe0_en,
+        parts.gpe1_sts,
+        parts.gpe1_en,
     )
 }
 
 // The text judged by its parts, and then the machine of them.
-fn read_parts(
-    text: &[u8],
-    edition: u64,
-    values: [u64; RECORDS],
-    at: usize,
-    own0: usize,
-    own1: usize,
-    gpe0_sts: [u8; GPE_BYTES],
-    gpe0_en: [u8; GPE_BYTES],
-    gpe1_sts: [u8; GPE_BYTES],
-    gpe1_en: [u8; GPE_BYTES],
-) -> ReadBack
-    requires { (at ≡ gpe_at edition) × ((own0 ≡ own0_of values) × (own1 ≡ own1_of values)) }
-    ensures { result ≡ read_parts edition text.now (parts values gpe0_sts gpe0_en gpe1_sts gpe1_en) }
+fn read_in(text: &[u8], edition: u64) -> ReadBack
+    ensures { result ≡ read_parts edition text.now (parts_in edition text.now) }
 {
-    let m = machine_from(values, gpe0_sts, gpe0_en, gpe1_sts, gpe1_en);
-    match judge_text(
-        text, edition, values, at, own0, own1, gpe0_sts, gpe0_en, gpe1_sts, gpe1_en,
-    ) {
-        Ok(()) => read_as(judge_machine(m, values), m),
+    let parts = parts_in(text, edition);
+    let m = machine_of(parts);
+    match judge_text(text, edition, parts) {
+        Ok(()) => read_as(judge_machine(m, parts.values), m),
         Err(why) => read_as(Err(why), m),
     }
 }

@@ -1,15 +1,15 @@
-use mathlib.Core.Path.{◌≡◌}
+use mathlib.Core.Path.{◌≡◌, sym}
 use lib.ListN.{length}
 use native.Mathlib.Omega.{arith}
-use Rattle.saved.proofs.Laws.{gpe-length}
 use borrow.Author.Rules.{rules}
+use Rattle.saved.proofs.Laws.{gpe-at-short, printed-length}
 use Rattle.saved.proofs.print.text_length.Goals as goal
+
+pub overflow_add-result-3 : goal.overflow_add-result-3
+overflow_add-result-3 c =
+    record { fits = omega (arith, c.gpe_at.ensures, gpe-at-short c.args.edition (omega arith), c.own-own0.ensures, c.own-own1.ensures) }
 
 pub returns : goal.returns
 returns c =
-    let l : length c.args.gpe0_sts ≡ 8 = search rules in
-    let l' : length c.args.gpe0_en ≡ 8 = search rules in
-    let l'' : length c.args.gpe1_sts ≡ 8 = search rules in
-    let l''' : length c.args.gpe1_en ≡ 8 = search rules in
-    let long = gpe-length c.args.gpe0_sts c.args.gpe0_en c.args.gpe1_sts c.args.gpe1_en c.args.own0 c.args.own1 (omega arith) (omega arith) (omega arith) (omega arith) in
-    omega (arith, long)
+    let long = printed-length c.args.edition c.args.parts (search rules) (search rules) (search rules) (search rules) in
+    omega (arith, long, c.own-own0.ensures, c.own-own1.ensures, c.gpe_at.ensures)

@@ -1,37 +1,14 @@
-use mathlib.Core.Path.{ap}
-use native.Mathlib.Omega.{arith}
+use mathlib.Core.Path.{◌∙◌, ap, refl}
 use Rattle.saved.specs.Reading.{read_parts}
-use Rattle.saved.proofs.Laws.{gpe-at-short}
-use Rattle.saved.proofs.Judged.{parts-found}
-use mathlib.Core.Path.{◌∙◌}
+use Rattle.saved.proofs.Judged.{accepted-parts, refused-parts}
 use Rattle.saved.proofs.reading.read_in.Goals as goal
 
-pub overflow_add-en0-2 : goal.overflow_add-en0-2
-overflow_add-en0-2 c = record { fits = omega (arith, c.gpe_at-at.ensures, gpe-at-short c.args.edition (omega arith), c.own-own0.ensures, c.own-own1.ensures) }
+pub returns-in-Ok : goal.returns-in-Ok
+returns-in-Ok c =
+    accepted-parts c.args.edition c.args.text.now _ _ _ _ c.in-Ok.ensures c.machine_of-m.ensures _ refl c.judge_machine.ensures c.read_as.ensures
+    ∙ ap (read_parts c.args.edition c.args.text.now) c.parts_in-parts.ensures
 
-pub overflow_add-sts1-2 : goal.overflow_add-sts1-2
-overflow_add-sts1-2 c = record { fits = omega (arith, c.gpe_at-at.ensures, gpe-at-short c.args.edition (omega arith), c.own-own0.ensures, c.own-own1.ensures) }
-
-pub overflow_add-en1-2 : goal.overflow_add-en1-2
-overflow_add-en1-2 c = record { fits = omega (arith, c.gpe_at-at.ensures, gpe-at-short c.args.edition (omega arith), c.own-own0.ensures, c.own-own1.ensures) }
-
-pub overflow_add-at : goal.overflow_add-at
-overflow_add-at c = record { fits = omega (arith, c.gpe_at-at.ensures, gpe-at-short c.args.edition (omega arith), c.own-own0.ensures, c.own-own1.ensures) }
-
-pub overflow_add-en0-3 : goal.overflow_add-en0-3
-overflow_add-en0-3 c = record { fits = omega (arith, c.gpe_at-at.ensures, gpe-at-short c.args.edition (omega arith), c.own-own0.ensures, c.own-own1.ensures) }
-
-pub overflow_add-sts1-3 : goal.overflow_add-sts1-3
-overflow_add-sts1-3 c = record { fits = omega (arith, c.gpe_at-at.ensures, gpe-at-short c.args.edition (omega arith), c.own-own0.ensures, c.own-own1.ensures) }
-
-pub overflow_add-en1-3 : goal.overflow_add-en1-3
-overflow_add-en1-3 c = record { fits = omega (arith, c.gpe_at-at.ensures, gpe-at-short c.args.edition (omega arith), c.own-own0.ensures, c.own-own1.ensures) }
-
-pub returns : goal.returns
-returns c =
-    c.read_parts.ensures
-    ∙ ap (read_parts c.args.edition c.args.text.now)
-    (parts-found c.args.edition c.args.text.now _ _ _ _ _ _ _ _ _
-    c.records_at.ensures c.read_records-values.ensures
-    c.own-own0.ensures c.own-own1.ensures c.gpe_at-at.ensures
-    c.read_bytes.ensures c.read_bytes-2.ensures c.read_bytes-3.ensures c.read_bytes-4.ensures)
+pub returns-in-Err : goal.returns-in-Err
+returns-in-Err c =
+    refused-parts c.args.edition c.args.text.now _ _ _ _ c.in-Err.ensures c.machine_of-m.ensures refl c.read_as-in-Err.ensures
+    ∙ ap (read_parts c.args.edition c.args.text.now) c.parts_in-parts.ensures
