@@ -15,7 +15,7 @@ use Rattle.lists.specs.Any.{any}
 use Rattle.lists.proofs.Tests.{or_left, or_right}
 use Rattle.text.proofs.Digits.{number-of-digits}
 use Rattle.text.proofs.Equal.{same-equal}
-use Rattle.records.specs.Rows.{Row, row, command, rows}
+use Rattle.records.specs.Rows.{Row, row, hex, command, rows}
 use Rattle.records.specs.Records.{command_of, formed, is_in, text_in, record_text, records_text, length_in, value_in, read_in, values_in}
 use Rattle.records.proofs.RowFacts.{unsound, sound, Sound, rows-sound}
 use Rattle.records.proofs.ReadBack.{digits-there, in-past}
@@ -103,7 +103,7 @@ module _ (edition : ℕ) (text : List ℕ) (known : edition ≡ 0 → ⊥) (w : 
 
   command-formed : formed command (get_or vs 38 0) ≡ get_or vs 38 0
   unfolding rows
-  command-formed = formed-at edition rows vs (gpe_in (parts_in edition text)) rows-sound own-text 38 (row "" 0 0) (lit< tt) (le-leb 1 edition (omega arith)) (command-small (get_or vs 38 0))
+  command-formed = formed-at edition rows vs (gpe_in (parts_in edition text)) rows-sound own-text 38 (row "" hex 0) (lit< tt) (le-leb 1 edition (omega arith)) (command-small (get_or vs 38 0))
 
   -- no text breaks them
   pub no-text-breaks : one_value (machine_in edition text) ≡ true
