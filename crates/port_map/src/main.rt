@@ -1,10 +1,8 @@
 // Prints the port map of the table `platform.fadt`, or nothing where setting up refuses it. Homes, override and sleep states, which move no port, are none.
 #![tactic(auto)]
 
-ghost use Rattle.files.specs.Counts.{IsPrefixLen};
-
 use platform::{Host, Settings};
-use std::fs::{File, Files};
+use std::fs::File;
 
 // An absent state.
 const NO: [u8; 2] = [255, 255];
@@ -14,7 +12,8 @@ const ROOM: usize = 512;
 
 fn main(rt: HostRuntime) {
     let mut table = files::large_buffer();
-    let length = read_table(&rt, &mut table);
+    // A table that is not there has no byte.
+    let length = files::read_opened(File::open(&rt, "platform.fadt"), &mut table);
     let host = Host {
         event_homes: 0,
         control_homes: 0,
@@ -27,22 +26,8 @@ fn main(rt: HostRuntime) {
     }
 }
 
-// A table that is not there has no byte.
-fn read_table(rt: &impl Files, table: &mut [u8]) -> usize
-    ensures { IsPrefixLen result table.new }
-{
-    files::read_opened(File::open(rt, "platform.fadt"), table)
-}
-
-// No more than there is.
-fn within(length: usize, text: &[u8]) -> usize
-    ensures { IsPrefixLen result text.now }
-{
-    if length <= text.len() { length } else { 0 }
-}
-
 fn print(rt: &impl Print, s: Settings) {
-    let mut text = [0u8; ROOM];
-    let n = within(map_lines::write_map(&mut text, s), &text);
-    files::say(rt, &text[..n]);
+    let mut text = [0; ROOM];
+    let n = map_lines::write_map(&mut text, s);
+    files::say(rt, text.get(..n).unwrap_or_default());
 }

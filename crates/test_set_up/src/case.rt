@@ -2,53 +2,42 @@
 use crate::fields::offset;
 use crate::numbers::number;
 use platform::Host;
+use std::io;
 use test_tables::{COMMON, NO_STATE, ROOM, SESSION, SESSION_STATES, filled, pairs_of, summing_to};
-use text::{part, part_count, same};
+use text::part;
 
 // What is given to setting up, and what the bytes of the table sum to.
-#[derive(Clone, Copy)]
-pub struct Case {
-    pub table: [u8; ROOM],
-    pub lent: u32,
-    pub sum: u32,
-    pub event_homes: u32,
-    pub control_homes: u32,
-    pub power_override: u32,
-    pub states: [u16; 6],
+#[derive(Clone, Copy, Debug)]
+struct Case {
+    table: [u8; ROOM],
+    lent: usize,
+    sum: u8,
+    host: Host,
 }
 
 // A case a line.
-pub(crate) fn all(out: &impl Print, source: &[u8]) {
-    let mut start = 0;
-    while start < source.len() {
-        line(out, text::line_from(source, start));
-        start = text::next_line(source, start);
+pub(crate) fn all(out: &impl Print, source: &[u8]) -> io::Result<()> {
+    for words in source.split(|byte| *byte == b'\n') {
+        if !is_silent(words) {
+            let case = read(out, part(words, b':', 1))?;
+            lend(out, part(words, b':', 0), case)?;
+        }
     }
-}
-
-fn line(out: &impl Print, words: &[u8]) {
-    if is_silent(words) {
-        return;
-    }
-    lend(out, part(words, b':', 0), read(out, part(words, b':', 1)));
+    Ok(())
 }
 
 // An empty line, or one that begins with a slash.
 fn is_silent(words: &[u8]) -> bool {
-    words.len() == 0 || words[0] == b'/'
+    matches!(words, [] | [b'/', ..])
 }
 
 // The worked session, with what each word says.
-fn read(out: &impl Print, words: &[u8]) -> Case {
-    let n = part_count(words, b' ');
+fn read(out: &impl Print, words: &[u8]) -> io::Result<Case> {
     let mut c = session();
-    let mut i = 0;
-    while i < n {
-        let next = with_word(out, c, part(words, b' ', i));
-        c = next;
-        i += 1;
+    for word in words.split(|byte| *byte == b' ') {
+        c = with_word(out, c, word)?;
     }
-    c
+    Ok(c)
 }
 
 fn session() -> Case {
@@ -56,125 +45,73 @@ fn session() -> Case {
         table: filled(filled([0; ROOM], &COMMON), &SESSION),
         lent: 116,
         sum: 0,
-        event_homes: 0,
-        control_homes: 0,
-        power_override: 0,
-        states: SESSION_STATES,
+        host: Host {
+            event_homes: 0,
+            control_homes: 0,
+            power_override: false,
+            pairs: pairs_of(SESSION_STATES),
+        },
     }
 }
 
 // A word is a name, = and a value.
-fn with_word(out: &impl Print, c: Case, word: &[u8]) -> Case {
-    if word.len() == 0 {
-        return c;
+fn with_word(out: &impl Print, case: Case, word: &[u8]) -> io::Result<Case> {
+    if word.is_empty() {
+        return Ok(case);
     }
-    with_value(out, c, part(word, b'=', 0), part(word, b'=', 1))
-}
-
-fn with_value(out: &impl Print, c: Case, name: &[u8], value: &[u8]) -> Case {
-    if same(name, b"states") {
-        return with_states(c, states(out, value));
+    let name = part(word, b'=', 0);
+    let value = part(word, b'=', 1);
+    let mut c = case;
+    if let b"states" = name {
+        c.host.pairs = pairs_of(states(out, value)?);
+        return Ok(c);
     }
-    let n = number(out, value);
-    let mut d = c;
-    if same(name, b"lent") {
-        d.lent = n;
-        return d;
+    let n = number(out, value)?;
+    match name {
+        b"lent" => c.lent = n as usize,
+        b"sum" => c.sum = (n % 256) as u8,
+        b"event_homes" => c.host.event_homes = (n % 65536) as u16,
+        b"control_homes" => c.host.control_homes = (n % 65536) as u16,
+        b"power_override" => c.host.power_override = n == 1,
+        _ => c.table = filled(c.table, &[[offset(out, name)?, n]]),
     }
-    if same(name, b"sum") {
-        d.sum = n;
-        return d;
-    }
-    if same(name, b"event_homes") {
-        d.event_homes = n;
-        return d;
-    }
-    if same(name, b"control_homes") {
-        d.control_homes = n;
-        return d;
-    }
-    if same(name, b"power_override") {
-        d.power_override = n;
-        return d;
-    }
-    with_field(c, offset(out, name), n)
-}
-
-fn with_field(c: Case, offset: u32, value: u32) -> Case {
-    let table = c.table;
-    let mut d = c;
-    let edited = filled(table, &[[offset, value]]);
-    d.table = edited;
-    d
-}
-
-fn with_states(c: Case, states: [u16; 6]) -> Case {
-    let mut d = c;
-    d.states = states;
-    d
+    Ok(c)
 }
 
 // S0 to S5, parted by commas.
-fn states(out: &impl Print, value: &[u8]) -> [u16; 6] {
-    [
-        state(out, part(value, b',', 0)),
-        state(out, part(value, b',', 1)),
-        state(out, part(value, b',', 2)),
-        state(out, part(value, b',', 3)),
-        state(out, part(value, b',', 4)),
-        state(out, part(value, b',', 5)),
-    ]
+fn states(out: &impl Print, value: &[u8]) -> io::Result<[u16; 6]> {
+    Ok([
+        state(out, part(value, b',', 0))?,
+        state(out, part(value, b',', 1))?,
+        state(out, part(value, b',', 2))?,
+        state(out, part(value, b',', 3))?,
+        state(out, part(value, b',', 4))?,
+        state(out, part(value, b',', 5))?,
+    ])
 }
 
 // A pair a.b, or - for an absent state.
-fn state(out: &impl Print, value: &[u8]) -> u16 {
-    if same(value, b"-") {
-        return NO_STATE;
+fn state(out: &impl Print, value: &[u8]) -> io::Result<u16> {
+    if let b"-" = value {
+        return Ok(NO_STATE);
     }
-    let a = number(out, part(value, b'.', 0));
-    let b = number(out, part(value, b'.', 1));
-    (a % 256 * 256 + b % 256) as u16
+    let a = number(out, part(value, b'.', 0))?;
+    let b = number(out, part(value, b'.', 1))?;
+    Ok((a % 256 * 256 + b % 256) as u16)
 }
 
 // The table's first bytes are lent.
-fn lend(out: &impl Print, name: &[u8], c: Case) {
-    let n = c.lent as usize;
-    let table = c.table;
-    let states = c.states;
-    let t = summing_to((c.sum % 256) as u8, table);
-    let bytes: &[u8] = &t;
-    if n <= bytes.len() {
-        answer(
-            out,
-            name,
-            &bytes[..n],
-            (c.event_homes % 65536) as u16,
-            (c.control_homes % 65536) as u16,
-            c.power_override == 1,
-            states,
-        );
+fn lend(out: &impl Print, name: &[u8], c: Case) -> io::Result<()> {
+    let table = summing_to(c.sum, c.table);
+    match table.get(..c.lent) {
+        Some(bytes) => answer(out, name, bytes, c.host),
+        None => Ok(()),
     }
 }
 
-pub(crate) fn answer(
-    out: &impl Print,
-    name: &[u8],
-    table: &[u8],
-    event_homes: u16,
-    control_homes: u16,
-    power_override: bool,
-    states: [u16; 6],
-) {
-    let host = Host {
-        event_homes,
-        control_homes,
-        power_override,
-        pairs: pairs_of(states),
-    };
+pub(crate) fn answer(out: &impl Print, name: &[u8], table: &[u8], host: Host) -> io::Result<()> {
     let made = machine::set_up(table, host);
     let answer = made.answer;
-    files::say(out, name);
-    files::say(out, b"\t");
-    files::say_decimal(out, platform::number(answer) as u64);
-    files::say(out, b"\n");
+    out.write_all(name)?;
+    println!(out; "\t{}", platform::number(answer))
 }

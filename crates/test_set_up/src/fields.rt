@@ -1,68 +1,31 @@
 // The FADT's fields by name.
 use crate::numbers::number;
-use text::same;
+use std::io;
 
 // The offset of the field; a number is itself one.
-pub(crate) fn offset(out: &impl Print, name: &[u8]) -> u32 {
-    if same(name, b"LENGTH") {
-        return test_tables::LENGTH;
-    }
-    if same(name, b"SMI_CMD") {
-        return test_tables::SMI_CMD;
-    }
-    if same(name, b"ACPI_ENABLE") {
-        return test_tables::ACPI_ENABLE;
-    }
-    if same(name, b"ACPI_DISABLE") {
-        return test_tables::ACPI_DISABLE;
-    }
-    if same(name, b"PM1a_EVT_BLK") {
-        return test_tables::PM1a_EVT_BLK;
-    }
-    if same(name, b"PM1b_EVT_BLK") {
-        return test_tables::PM1b_EVT_BLK;
-    }
-    if same(name, b"PM1a_CNT_BLK") {
-        return test_tables::PM1a_CNT_BLK;
-    }
-    if same(name, b"PM1b_CNT_BLK") {
-        return test_tables::PM1b_CNT_BLK;
-    }
-    if same(name, b"PM2_CNT_BLK") {
-        return test_tables::PM2_CNT_BLK;
-    }
-    if same(name, b"PM_TMR_BLK") {
-        return test_tables::PM_TMR_BLK;
-    }
-    if same(name, b"GPE0_BLK") {
-        return test_tables::GPE0_BLK;
-    }
-    if same(name, b"GPE1_BLK") {
-        return test_tables::GPE1_BLK;
-    }
-    if same(name, b"PM1_EVT_LEN") {
-        return test_tables::PM1_EVT_LEN;
-    }
-    if same(name, b"PM1_CNT_LEN") {
-        return test_tables::PM1_CNT_LEN;
-    }
-    if same(name, b"PM2_CNT_LEN") {
-        return test_tables::PM2_CNT_LEN;
-    }
-    if same(name, b"PM_TMR_LEN") {
-        return test_tables::PM_TMR_LEN;
-    }
-    if same(name, b"GPE0_BLK_LEN") {
-        return test_tables::GPE0_BLK_LEN;
-    }
-    if same(name, b"GPE1_BLK_LEN") {
-        return test_tables::GPE1_BLK_LEN;
-    }
-    if same(name, b"GPE1_BASE") {
-        return test_tables::GPE1_BASE;
-    }
-    if same(name, b"FLAGS") {
-        return test_tables::FLAGS;
-    }
-    number(out, name)
+pub(crate) fn offset(out: &impl Print, name: &[u8]) -> io::Result<u32> {
+    let offset = match name {
+        b"LENGTH" => test_tables::LENGTH,
+        b"SMI_CMD" => test_tables::SMI_CMD,
+        b"ACPI_ENABLE" => test_tables::ACPI_ENABLE,
+        b"ACPI_DISABLE" => test_tables::ACPI_DISABLE,
+        b"PM1a_EVT_BLK" => test_tables::PM1a_EVT_BLK,
+        b"PM1b_EVT_BLK" => test_tables::PM1b_EVT_BLK,
+        b"PM1a_CNT_BLK" => test_tables::PM1a_CNT_BLK,
+        b"PM1b_CNT_BLK" => test_tables::PM1b_CNT_BLK,
+        b"PM2_CNT_BLK" => test_tables::PM2_CNT_BLK,
+        b"PM_TMR_BLK" => test_tables::PM_TMR_BLK,
+        b"GPE0_BLK" => test_tables::GPE0_BLK,
+        b"GPE1_BLK" => test_tables::GPE1_BLK,
+        b"PM1_EVT_LEN" => test_tables::PM1_EVT_LEN,
+        b"PM1_CNT_LEN" => test_tables::PM1_CNT_LEN,
+        b"PM2_CNT_LEN" => test_tables::PM2_CNT_LEN,
+        b"PM_TMR_LEN" => test_tables::PM_TMR_LEN,
+        b"GPE0_BLK_LEN" => test_tables::GPE0_BLK_LEN,
+        b"GPE1_BLK_LEN" => test_tables::GPE1_BLK_LEN,
+        b"GPE1_BASE" => test_tables::GPE1_BASE,
+        b"FLAGS" => test_tables::FLAGS,
+        _ => number(out, name)?,
+    };
+    Ok(offset)
 }

@@ -1,8 +1,9 @@
 // The platforms that the cases start from.
 use machine::Machine;
+use platform::Host;
 use std::io;
 use test_tables::{
-    COMMON, FLAGS, GPE0_BLK, GPE0_BLK_LEN, GPE1_BASE, GPE1_BLK, GPE1_BLK_LEN, Host, NO_STATE,
+    COMMON, FLAGS, GPE0_BLK, GPE0_BLK_LEN, GPE1_BASE, GPE1_BLK, GPE1_BLK_LEN, NO_STATE,
     PM_TMR_BLK, PM_TMR_LEN, PM1b_CNT_BLK, PM1b_EVT_BLK, PM2_CNT_BLK, PM2_CNT_LEN, ROOM, SESSION,
     SESSION_STATES, filled, pairs_of, summing_to,
 };
@@ -56,7 +57,7 @@ pub(crate) fn session() -> Machine {
         event_homes: 0x0400,
         control_homes: 0x0000,
         power_override: false,
-        states: SESSION_STATES,
+        pairs: pairs_of(SESSION_STATES),
     };
     set_up(session_table(), host)
 }
@@ -67,7 +68,7 @@ fn full() -> Machine {
         event_homes: 0x0000,
         control_homes: 0x0000,
         power_override: true,
-        states: [0x0000, 0x0106, 0x0205, 0x0304, 0x0403, 0x0502],
+        pairs: pairs_of([0x0000, 0x0106, 0x0205, 0x0304, 0x0403, 0x0502]),
     };
     set_up(filled(session_table(), &FULL), host)
 }
@@ -78,7 +79,7 @@ fn single() -> Machine {
         event_homes: 0x0000,
         control_homes: 0x0000,
         power_override: false,
-        states: [0x0000, 0x0100, 0x0200, 0x0300, 0x0400, 0x0500],
+        pairs: pairs_of([0x0000, 0x0100, 0x0200, 0x0300, 0x0400, 0x0500]),
     };
     set_up(filled(common_table(), &SINGLE), host)
 }
@@ -89,7 +90,7 @@ fn bare() -> Machine {
         event_homes: 0xC731,
         control_homes: 0x0007,
         power_override: true,
-        states: [NO_STATE; 6],
+        pairs: pairs_of([NO_STATE; 6]),
     };
     set_up(filled(common_table(), &BARE), host)
 }
@@ -104,12 +105,6 @@ fn session_table() -> [u8; ROOM] {
 
 fn set_up(table: [u8; ROOM], host: Host) -> Machine {
     let t = summing_to(0, table);
-    let host = platform::Host {
-        event_homes: host.event_homes,
-        control_homes: host.control_homes,
-        power_override: host.power_override,
-        pairs: pairs_of(host.states),
-    };
     let made = machine::set_up(&t[..116], host);
     made.machine
 }

@@ -11,5 +11,5 @@ pub use fields::{
     PM1a_CNT_BLK, PM1a_EVT_BLK, PM1b_CNT_BLK, PM1b_EVT_BLK, PM2_CNT_BLK, PM2_CNT_LEN, REVISION,
     SESSION, SESSION_STATES, SIGNATURE, SMI_CMD,
 };
-pub use states::{Host, pairs_of};
+pub use states::pairs_of;
 pub use tables::{ROOM, filled, summing_to};

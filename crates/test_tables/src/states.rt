@@ -2,15 +2,6 @@
 ghost use Rattle.std.specs.Prelude.{◌≡◌};
 ghost use Rattle.test_tables.specs.States.{pair_of, pairs_of};
 
-// What setting up is given beside the table.
-#[derive(Clone, Copy, Debug)]
-pub struct Host {
-    pub event_homes: u16,
-    pub control_homes: u16,
-    pub power_override: bool,
-    pub states: [u16; 6],
-}
-
 // The pair of each state, S0 to S5.
 pub fn pairs_of(states: [u16; 6]) -> [[u8; 2]; 6]
     ensures { result ≡ pairs_of states }
