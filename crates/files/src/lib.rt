@@ -80,16 +80,6 @@ pub fn say(out: &impl Print, text: &[u8]) {
     let _ = out.write_all(text);
 }
 
-// Writes a number in decimal.
-pub fn say_decimal(out: &impl Print, n: u64) {
-    let _ = print!(out; "{n}");
-}
-
-// Writes a number in hex, in lower case.
-pub fn say_hex(out: &impl Print, n: u64) {
-    let _ = print!(out; "{n:x}");
-}
-
 #[cfg(test)]
 mod tests {
     use super::*;
