@@ -150,8 +150,16 @@ fn hold(out: &impl Print) -> io::Result<()> {
 // 0 where the pair names none.
 fn states(out: &impl Print) -> io::Result<()> {
     let pairs = [[0, 0], [255, 255], [255, 255], [5, 2], [255, 255], [7, 0]];
-    line(out, "pair (5, 2)", sleep::state_of(pairs, true, 5, 2).unwrap_or(0))?;
-    line(out, "pair (5, 3)", sleep::state_of(pairs, true, 5, 3).unwrap_or(0))?;
+    line(
+        out,
+        "pair (5, 2)",
+        sleep::state_of(pairs, true, 5, 2).unwrap_or(0),
+    )?;
+    line(
+        out,
+        "pair (5, 3)",
+        sleep::state_of(pairs, true, 5, 3).unwrap_or(0),
+    )?;
     line(
         out,
         "pair (5, 3), B absent",
