@@ -8,7 +8,6 @@ use native.Mathlib.Nat.{zero-div}
 use native.Mathlib.Omega.{arith}
 use borrow.Author.Tests.{ne_eqb, ltb-true, le-ltb, not-false}
 use lib.Dec.{eqb}
-use Rattle.std.specs.declared.result.Result.TheVariants.{Ok, Err}
 use Rattle.acpi.specs.Bits.{ARB_DIS}
 use Rattle.platform.specs.declared.settings.Settings.{Settings}
 use Rattle.bits.specs.Writes.{byte_at}
@@ -28,7 +27,7 @@ use Rattle.ports.specs.declared.Place.{Place}
 use Rattle.model.specs.Ports.{register_in, offset_in, register_at, offset_at}
 use Rattle.model.specs.Step.{write_refusals, answer_to}
 use Rattle.model.specs.declared.Access.{Access}
-use Rattle.model.specs.declared.StepRefusal.TheVariants as refusal
+use Rattle.model.specs.declared.Answer.TheVariants as answer
 use Rattle.model.specs.declared.Effect.{Effect}
 use Rattle.model.specs.declared.Register.{Register}
 use Rattle.model.specs.declared.Register.TheVariants as register
@@ -84,10 +83,10 @@ module _ (m : Machine) (width offset written : ℕ) (x : Effect) where
   pub at_register : (r y : Register) → r ≡ y → allowed r width offset ≡ true → (allowed y width offset ≡ true → Ends y) → Ends r
   at_register r y e a f = rw e (f (rw e at a))
 
-  pub smi-refuses : m.command_waits ≡ true → x ≡ unmoved (scalars_of m) (Err refusal.CommandWaits) → allowed register.SmiCmd width offset ≡ true → Ends register.SmiCmd
+  pub smi-refuses : m.command_waits ≡ true → x ≡ unmoved (scalars_of m) answer.CommandWaits → allowed register.SmiCmd width offset ≡ true → Ends register.SmiCmd
   unfolding register_write first_applying leads_nowhere is_timer command_lost names_none
   smi-refuses w q a =
-      q ∙ rw a (ap (λ t. unless_refused m (cond t (Err refusal.CommandWaits) (Ok 0)) (write_effect m register.SmiCmd width offset written)) (sym w))
+      q ∙ rw a (ap (λ t. unless_refused m (cond t answer.CommandWaits (answer.Done 0)) (write_effect m register.SmiCmd width offset written)) (sym w))
 
   pub smi-takes : m.command_waits ≡ false → x ≡ done 0 (scalars_of (with_command m true (written % 2 ^ 8))) None
       → allowed register.SmiCmd width offset ≡ true → Ends register.SmiCmd
@@ -99,11 +98,11 @@ module _ (m : Machine) (width offset written : ℕ) (x : Effect) where
   unfolding register_write first_applying leads_nowhere is_timer command_lost names_none write_effect
   pm2-takes q a = rw a q
 
-  pub timer-refuses : x ≡ unmoved (scalars_of m) (Err refusal.TimerWritten) → allowed register.PmTmr width offset ≡ true → Ends register.PmTmr
+  pub timer-refuses : x ≡ unmoved (scalars_of m) answer.TimerWritten → allowed register.PmTmr width offset ≡ true → Ends register.PmTmr
   unfolding register_write first_applying leads_nowhere is_timer
   timer-refuses q a = rw a q
 
-  pub nowhere-refuses : x ≡ unmoved (scalars_of m) (Err refusal.NoBlock) → allowed register.Nowhere width offset ≡ true → Ends register.Nowhere
+  pub nowhere-refuses : x ≡ unmoved (scalars_of m) answer.NoBlock → allowed register.Nowhere width offset ≡ true → Ends register.Nowhere
   unfolding register_write first_applying leads_nowhere
   nowhere-refuses q a = q
 
@@ -127,7 +126,7 @@ module _ (m : Machine) (width offset written : ℕ) (x : Effect) where
     control-takes q a = q ∙ go (completes m b width offset written && is_none (named_state m b width offset written)) refl a
       where
         go : (t : Bool) → (completes m b width offset written && is_none (named_state m b width offset written)) ≡ t → allowed (register.Pm1Cnt b) width offset ≡ true
-            → cond t (unmoved (scalars_of m) (Err refusal.NoSleepState)) (done 0 (scalars_of (controlled m b width offset written)) (completing m b width offset written))
+            → cond t (unmoved (scalars_of m) answer.NoSleepState) (done 0 (scalars_of (controlled m b width offset written)) (completing m b width offset written))
             ≡ register_write m (register.Pm1Cnt b) width offset written
         go true e a = rw (a, e) refl
         go false e a = rw (a, e) refl
@@ -142,7 +141,7 @@ reaches s port p r offset w e f = (e ∙ ap register_in w, f ∙ ap offset_in w)
 
 -- a write with what its port leads to
 abbrev writing : Machine → Register → ℕ → ℕ → ℕ → Effect
-writing m r width offset written = unless_refused m (first_applying (write_refusals m r width offset written) (Ok 0)) (write_effect m r width offset written)
+writing m r width offset written = unless_refused m (first_applying (write_refusals m r width offset written) (answer.Done 0)) (write_effect m r width offset written)
 
 -- a write is refused by its first lines, or comes to what its register says
 module _ (m : Machine) (a : Access) (written : ℕ) (r : Register) (offset : ℕ)
@@ -151,22 +150,22 @@ module _ (m : Machine) (a : Access) (written : ℕ) (r : Register) (offset : ℕ
   unfolding effect_of answer_to
   write-at q = q ∙ rw (leads.0, leads.1) refl
 
-  pub write-asleep : awake m ≡ false → x ≡ unmoved (scalars_of m) (Err refusal.Asleep) → x ≡ effect_of m (step.Write a written)
+  pub write-asleep : awake m ≡ false → x ≡ unmoved (scalars_of m) answer.Asleep → x ≡ effect_of m (step.Write a written)
   unfolding first_applying
   write-asleep w q = write-at (rw w q)
 
   module _ (w : awake m ≡ true) where
-    pub write-wrong-width : wrong_width a.width ≡ true → x ≡ unmoved (scalars_of m) (Err refusal.WrongWidth) → x ≡ effect_of m (step.Write a written)
+    pub write-wrong-width : wrong_width a.width ≡ true → x ≡ unmoved (scalars_of m) answer.WrongWidth → x ≡ effect_of m (step.Write a written)
     unfolding first_applying
     write-wrong-width e q = write-at (rw (w, e) q)
 
     module _ (right : wrong_width a.width ≡ false) where
-      pub write-too-wide : data_too_wide a.width written ≡ true → x ≡ unmoved (scalars_of m) (Err refusal.DataTooWide) → x ≡ effect_of m (step.Write a written)
+      pub write-too-wide : data_too_wide a.width written ≡ true → x ≡ unmoved (scalars_of m) answer.DataTooWide → x ≡ effect_of m (step.Write a written)
       unfolding first_applying
       write-too-wide e q = write-at (rw (w, right, e) q)
 
       module _ (fit : data_too_wide a.width written ≡ false) where
-        pub write-not-allowed : allowed r a.width offset ≡ false → x ≡ unmoved (scalars_of m) (Err refusal.NotAllowed)
+        pub write-not-allowed : allowed r a.width offset ≡ false → x ≡ unmoved (scalars_of m) answer.NotAllowed
             → x ≡ effect_of m (step.Write a written)
         unfolding first_applying
         write-not-allowed e q = write-at (rw (w, right, fit, refused-leads r a.width offset e, e) q)

@@ -12,7 +12,7 @@ ghost use Rattle.model.specs.Effect.{sts_array, en_array, sts_byte, en_byte, gpe
 use acpi::ARB_DIS;
 use bits::pick;
 use machine::{GpeArray, GpeStore, Machine, Scalars};
-use model::{Effect, Register, StepRefusal};
+use model::{Answer, Effect, Register};
 use platform::Settings;
 use registers::{read_high, read_low};
 
@@ -160,7 +160,7 @@ fn stores(scalars: Scalars, store: GpeStore) -> Effect
     ensures { result ≡ gpe_write scalars store }
 {
     Effect {
-        answer: Ok(0),
+        answer: Answer::Done(0),
         scalars,
         store,
         next: None,
@@ -210,7 +210,7 @@ pub(crate) fn write_cells(m: Machine, r: Register, width: u32, offset: u64, writ
     match r {
         Register::SmiCmd => {
             if m.command_waits {
-                return model::unmoved(m.scalars(), Err(StepRefusal::CommandWaits));
+                return model::unmoved(m.scalars(), Answer::CommandWaits);
             }
             model::done(0, latch(m.scalars(), written % 256), None)
         }
@@ -238,7 +238,7 @@ pub(crate) fn write_cells(m: Machine, r: Register, width: u32, offset: u64, writ
             with_arb_dis(m.scalars(), written / ARB_DIS_SET % 2 == 1),
             None,
         ),
-        Register::PmTmr => model::unmoved(m.scalars(), Err(StepRefusal::TimerWritten)),
+        Register::PmTmr => model::unmoved(m.scalars(), Answer::TimerWritten),
         Register::Gpe(b) => {
             let number = gpe_number(s, b, offset);
             match number {
@@ -251,6 +251,6 @@ pub(crate) fn write_cells(m: Machine, r: Register, width: u32, offset: u64, writ
                 _ => stores(m.scalars(), en_byte(s, b, offset, written)),
             }
         }
-        Register::Nowhere => model::unmoved(m.scalars(), Err(StepRefusal::NoBlock)),
+        Register::Nowhere => model::unmoved(m.scalars(), Answer::NoBlock),
     }
 }

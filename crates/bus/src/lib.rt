@@ -9,32 +9,33 @@ ghost use Rattle.model.specs.Bus.{read_of};
 ghost use Rattle.model.specs.Effect.{effect_of};
 ghost use Rattle.model.specs.Ports.{register_at, offset_at};
 ghost use Rattle.model.specs.Step.{read_refusals, bus_step};
+ghost use Rattle.model.specs.declared.Answer.TheVariants as answer;
 ghost use Rattle.model.specs.declared.Step.TheVariants as step;
 
 use accesses::{allowed, data_too_wide, leads_nowhere, offset_in, register_in, wrong_width};
 use cell_rules::{read_cells, write_cells};
 use machine::{Machine, awake};
-use model::{Access, Answer, Effect, Register, StepRefusal, Transfer};
+use model::{Access, Answer, Effect, Register, Transfer};
 use ports::walk;
 
 // 20, 21, 23 and 24; else what is read.
 fn read_answer(m: Machine, r: Register, width: u32, offset: u64) -> Answer
-    ensures { result ≡ first_applying (read_refusals m r width offset) (Ok (read_of m r width offset)) }
+    ensures { result ≡ first_applying (read_refusals m r width offset) (answer.Done (read_of m r width offset)) }
 {
     if awake(m.state) {
         if wrong_width(width) {
-            return Err(StepRefusal::WrongWidth);
+            return Answer::WrongWidth;
         }
         if leads_nowhere(r) {
-            return Err(StepRefusal::NoBlock);
+            return Answer::NoBlock;
         }
         if allowed(r, width, offset) {
-            Ok(read_cells(m, r, width, offset))
+            Answer::Done(read_cells(m, r, width, offset))
         } else {
-            Err(StepRefusal::NotAllowed)
+            Answer::NotAllowed
         }
     } else {
-        Err(StepRefusal::Asleep)
+        Answer::Asleep
     }
 }
 
@@ -61,18 +62,18 @@ fn write(m: Machine, access: Access, r: Register, offset: u64, written: u64) -> 
     let width = access.width;
     if awake(m.state) {
         if wrong_width(width) {
-            return model::unmoved(m.scalars(), Err(StepRefusal::WrongWidth));
+            return model::unmoved(m.scalars(), Answer::WrongWidth);
         }
         if data_too_wide(width, written) {
-            return model::unmoved(m.scalars(), Err(StepRefusal::DataTooWide));
+            return model::unmoved(m.scalars(), Answer::DataTooWide);
         }
         if allowed(r, width, offset) {
             write_cells(m, r, width, offset, low(written))
         } else {
-            model::unmoved(m.scalars(), Err(StepRefusal::NotAllowed))
+            model::unmoved(m.scalars(), Answer::NotAllowed)
         }
     } else {
-        model::unmoved(m.scalars(), Err(StepRefusal::Asleep))
+        model::unmoved(m.scalars(), Answer::Asleep)
     }
 }
 

@@ -12,7 +12,7 @@ ghost use Rattle.model.specs.Effect.{control_write};
 use acpi::{BM_RLD, GBL_RLS, SLP_EN, SLP_TYPx};
 use bits::pick;
 use machine::{Scalars, StateChange};
-use model::{Effect, StepRefusal};
+use model::{Answer, Effect};
 use platform::Settings;
 use registers::{control_in, covers_high, covers_low, has_pm1b_cnt, placed, written_bit};
 
@@ -107,7 +107,7 @@ pub fn write(s: Settings, x: Scalars, b: bool, width: u32, offset: u64, written:
     if completes(s, x, b, width, offset, written) {
         match named_state(s, next.slp_typ_a, next.slp_typ_b) {
             Some(state) => model::done(0, next, Some(StateChange::Complete(state))),
-            None => model::unmoved(x, Err(StepRefusal::NoSleepState)),
+            None => model::unmoved(x, Answer::NoSleepState),
         }
     } else {
         model::done(0, next, None)

@@ -15,7 +15,7 @@ use bits::pick;
 use machine::{
     PCIEXP_WAKE, PWRBTN, Scalars, StateChange, WakeSource, awake, has_bit, is_sleeping, wake_bits,
 };
-use model::{Effect, StepRefusal};
+use model::{Answer, Effect};
 use platform::Settings;
 
 pub(crate) fn fits(s: Settings, bit: u16) -> bool
@@ -74,12 +74,12 @@ pub(crate) fn press(s: Settings, x: Scalars) -> Effect
 {
     if fits(s, PWRBTN) {
         if x.button {
-            model::unmoved(x, Err(StepRefusal::AlreadySo))
+            model::unmoved(x, Answer::AlreadySo)
         } else {
             model::done(0, button_down(x), press_wakes(x.state))
         }
     } else {
-        model::unmoved(x, Err(StepRefusal::NotFitted))
+        model::unmoved(x, Answer::NotFitted)
     }
 }
 
@@ -100,10 +100,10 @@ pub(crate) fn release(s: Settings, x: Scalars) -> Effect
         if x.button {
             model::done(0, button_up(x), None)
         } else {
-            model::unmoved(x, Err(StepRefusal::AlreadySo))
+            model::unmoved(x, Answer::AlreadySo)
         }
     } else {
-        model::unmoved(x, Err(StepRefusal::NotFitted))
+        model::unmoved(x, Answer::NotFitted)
     }
 }
 
@@ -120,7 +120,7 @@ fn raise_signal(s: Settings, x: Scalars, i: u8, bit: u16) -> Effect
     ensures { result ≡ signal_effect (bare s x) (pm1 i) }
 {
     if is_s5(x.state) {
-        model::unmoved(x, Ok(0))
+        model::unmoved(x, Answer::Done(0))
     } else {
         model::done(
             0,
@@ -138,7 +138,7 @@ pub(crate) fn signal(s: Settings, x: Scalars, i: u8, bit: u16) -> Effect
     if fits(s, bit) {
         raise_signal(s, x, i, bit)
     } else {
-        model::unmoved(x, Err(StepRefusal::NotFitted))
+        model::unmoved(x, Answer::NotFitted)
     }
 }
 
@@ -172,13 +172,13 @@ pub(crate) fn pin(s: Settings, x: Scalars, active: bool) -> Effect
 {
     if fits(s, PCIEXP_WAKE) {
         if x.wake_pin == active {
-            model::unmoved(x, Err(StepRefusal::AlreadySo))
+            model::unmoved(x, Answer::AlreadySo)
         } else {
             let wakes = pin_wakes(active, x.state, x.pm1_en);
             model::done(0, pinned(x, active, wakes), pin_next(wakes))
         }
     } else {
-        model::unmoved(x, Err(StepRefusal::NotFitted))
+        model::unmoved(x, Answer::NotFitted)
     }
 }
 
@@ -190,6 +190,6 @@ pub(crate) fn notice(x: Scalars, i: u8, bit: u16) -> Effect
     if awake(x.state) {
         model::done(0, raise(x, bit), None)
     } else {
-        model::unmoved(x, Err(StepRefusal::Asleep))
+        model::unmoved(x, Answer::Asleep)
     }
 }

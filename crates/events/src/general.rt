@@ -9,7 +9,7 @@ ghost use Rattle.model.specs.Events.{gpe, in_gpe0, in_gpe1, number_in, is_enable
 
 use crate::buttons::{is_s5, wakes_if};
 use machine::{GPE_BYTES, GpeArray, GpeStore, Machine, Scalars, WakeSource, has_bit8};
-use model::{Effect, StepRefusal};
+use model::{Answer, Effect};
 use platform::Settings;
 
 fn in_gpe0(s: Settings, k: u32) -> bool
@@ -121,7 +121,7 @@ fn raise_general(m: Machine, k: u32) -> Effect
 {
     let s = m.settings;
     if is_s5(m.state) {
-        model::unmoved(m.scalars(), Ok(0))
+        model::unmoved(m.scalars(), Answer::Done(0))
     } else {
         let sts0 = m.gpe0_sts;
         let en0 = m.gpe0_en;
@@ -132,7 +132,7 @@ fn raise_general(m: Machine, k: u32) -> Effect
         let store = raised_byte(s, sts0, sts1, k);
         let next = wakes_if(m.state, WakeSource::Gpe(k), enabled);
         Effect {
-            answer: Ok(0),
+            answer: Answer::Done(0),
             scalars,
             store,
             next,
@@ -148,6 +148,6 @@ pub(crate) fn general(m: Machine, k: u32) -> Effect
     if in_gpe0(s, k) | in_gpe1(s, k) {
         raise_general(m, k)
     } else {
-        model::unmoved(m.scalars(), Err(StepRefusal::NoSuchEvent))
+        model::unmoved(m.scalars(), Answer::NoSuchEvent)
     }
 }

@@ -11,7 +11,7 @@ use crate::buttons::fits;
 use bits::pick;
 use clock::Clock;
 use machine::{Scalars, StateChange, TMR, awake};
-use model::Effect;
+use model::{Answer, Effect};
 use platform::Settings;
 
 fn tmr_raised(s: Settings, turns: u32) -> u16
@@ -47,6 +47,6 @@ pub(crate) fn ticks(s: Settings, x: Scalars, n: u32) -> Effect
         let t = clock::ticks(wide, x.button, s.power_override, x.counter, x.hold, n);
         model::done(t.turns, timed(s, x, t), overridden_if(t.off))
     } else {
-        model::unmoved(x, Ok(0))
+        model::unmoved(x, Answer::Done(0))
     }
 }

@@ -9,7 +9,7 @@ ghost use Rattle.model.specs.Firmware.{is_acpi_enable, is_acpi_disable, sci_en_a
 ghost use Rattle.model.specs.declared.Step.TheVariants as step;
 
 use machine::{Scalars, awake};
-use model::{Effect, StepRefusal};
+use model::{Answer, Effect};
 use platform::Settings;
 
 fn wide(x: u8) -> u32
@@ -77,10 +77,10 @@ pub fn take(s: Settings, x: Scalars) -> Effect
         if x.command_waits {
             model::done(x.command, take_command(s, x), None)
         } else {
-            model::unmoved(x, Err(StepRefusal::NoCommand))
+            model::unmoved(x, Answer::NoCommand)
         }
     } else {
-        model::unmoved(x, Err(StepRefusal::Asleep))
+        model::unmoved(x, Answer::Asleep)
     }
 }
 
@@ -99,6 +99,6 @@ pub fn drop(x: Scalars) -> Effect
     if awake(x.state) {
         model::done(0, drop_flag(x), None)
     } else {
-        model::unmoved(x, Err(StepRefusal::Asleep))
+        model::unmoved(x, Answer::Asleep)
     }
 }

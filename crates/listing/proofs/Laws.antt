@@ -16,7 +16,8 @@ use Rattle.text.proofs.Stores.{two-writes}
 use Rattle.listing.specs.Entry.{decimal, flag, state_digit, state_text, tail, fields, entry_of, text_of, entry, entry_length, put_at}
 use Rattle.listing.specs.declared.Entry.{Entry}
 use Rattle.machine.specs.declared.Machine.{Machine}
-use Rattle.model.specs.Answer.{Answer, step_number}
+use Rattle.model.specs.Answer.{step_number}
+use Rattle.model.specs.declared.Answer.{Answer}
 
 -- digits, and a text after them
 pub after-digits : (b width n : ℕ) (l : List ℕ) (at : ℕ) (ys first second : List ℕ) → first ≡ sets l at (digits b width n)

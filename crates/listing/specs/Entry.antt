@@ -5,7 +5,8 @@ use Rattle.text.specs.Numbers.{digits, digit_count}
 use Rattle.text.specs.Parts.{tab, lf}
 use Rattle.machine.specs.Lines.{sci_of, smi_of}
 use Rattle.machine.specs.declared.Machine.{Machine}
-use Rattle.model.specs.Answer.{Answer, step_number, step_value}
+use Rattle.model.specs.Answer.{step_number, step_value}
+use Rattle.model.specs.declared.Answer.{Answer}
 use Rattle.listing.specs.declared.Entry.{Entry}
 
 -- the header: "step", "answer", "value", "sci", "smi", "state"

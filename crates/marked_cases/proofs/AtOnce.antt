@@ -7,17 +7,18 @@ use mathlib.Core.Path.{◌≡◌, refl, ap}
 use Prim.Native.Nat.{ℕ}
 use borrow.Author.Tests.{eqb-true}
 use lib.Dec.{eqb}
-use Rattle.std.specs.declared.result.Result.TheVariants.{Ok}
 use Rattle.lists.proofs.Tests.{and_left, and_right}
 use Rattle.clock.specs.AtOnce.{after_of}
 use Rattle.platform.specs.Fitted.{wide_timer}
 use Rattle.machine.specs.Lines.{awake}
 use Rattle.machine.specs.declared.Machine.{Machine}
-use Rattle.model.specs.Answer.{Answer, step_number, step_value, first_applying}
+use Rattle.model.specs.Answer.{step_number, step_value, first_applying}
 use Rattle.model.specs.Events.{StatusBit, event_bit, clock_of, timed, done_by, event_of, value_by}
 use Rattle.model.specs.EventKinds.{EventKind, event_kind}
 use Rattle.model.specs.EventKinds as kind
 use Rattle.model.specs.Step.{refusals_of, done_value, done_of, answer_to, accepted, after}
+use Rattle.model.specs.declared.Answer.{Answer}
+use Rattle.model.specs.declared.Answer.TheVariants as answer
 use Rattle.model.specs.declared.Step.{Step}
 use Rattle.model.specs.declared.Step.TheVariants as step
 use Rattle.model.proofs.Ticks.{clock-closed-form, ticks-closed-form}
@@ -69,7 +70,7 @@ done-at-once m step.Drop = refl
 -- the answer to a step, and the machine after it
 unfoldable pub answer_at_once : Machine → Step → Answer
 unfolding done_at_once event_at_once ticks_at_once
-answer_at_once m s = first_applying (refusals_of m s) (Ok (done_at_once m s).0)
+answer_at_once m s = first_applying (refusals_of m s) (answer.Done (done_at_once m s).0)
 
 unfoldable pub after_at_once : Machine → Step → Machine
 unfolding done_at_once event_at_once ticks_at_once
@@ -78,7 +79,7 @@ after_at_once m s = cond (accepted (answer_to m s)) (done_at_once m s).1 m
 -- both are the model's
 answer-at-once : (m : Machine) (s : Step) → answer_at_once m s ≡ answer_to m s
 unfolding answer_at_once answer_to
-answer-at-once m s = ap (λ (x : ℕ × Machine). first_applying (refusals_of m s) (Ok x.0)) (done-at-once m s)
+answer-at-once m s = ap (λ (x : ℕ × Machine). first_applying (refusals_of m s) (answer.Done x.0)) (done-at-once m s)
 
 pub after-at-once : (m : Machine) (s : Step) → after_at_once m s ≡ after m s
 unfolding after_at_once after

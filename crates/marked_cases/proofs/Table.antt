@@ -4,7 +4,6 @@ use mathlib.Core.Bool.{Bool, true, false, ◌&&◌}
 use mathlib.Core.List.Memᴰ
 use mathlib.Core.List.{List, [], ◌∷◌, Memᴰ}
 use mathlib.Core.Path.{◌≡◌, refl}
-use Rattle.std.specs.declared.result.Result.TheVariants.{Ok}
 use Rattle.lists.proofs.Tests.{and_left, and_right}
 use Rattle.cells.specs.Cells.{flag_of, bit_at, mask_of}
 use Rattle.clock.specs.AtOnce.{off_within, ran_of, counter_after, turns_in, hold_after}
@@ -22,6 +21,7 @@ use Rattle.ports.specs.Walk.{walk_over}
 use Rattle.model.specs.Ports.{register_at, offset_at}
 use Rattle.machine.specs.declared.Machine.{Machine}
 use Rattle.model.specs.Step.{ticks, answer_to, after, step_of}
+use Rattle.model.specs.declared.Answer.TheVariants as answer
 use Rattle.marked_cases.specs.Platform.{platform, SetUpGives}
 use Rattle.marked_cases.specs.Rows.{Row, Holds, rows}
 use Rattle.marked_cases.proofs.Accepted.{set-up-gives}
@@ -48,7 +48,7 @@ pub marked-cases : (r : Row) → Memᴰ r rows → Holds r
 marked-cases = each_holds rows rows_pass
 
 -- "zero ticks: nothing", of any machine and every part of it
-pub zero-ticks : (m : Machine) → step_of m (ticks 0) ≡ record { answer = Ok 0; machine = m }
+pub zero-ticks : (m : Machine) → step_of m (ticks 0) ≡ record { answer = answer.Done 0; machine = m }
 unfolding answer_to first_applying after event_of ticked_by turns_by
 zero-ticks m = refl
 

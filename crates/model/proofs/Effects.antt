@@ -5,7 +5,6 @@ use mathlib.Core.Bool.{Bool, true, false, cond, ◌&&◌, false≢true}
 use Rattle.std.specs.Prelude.{None}
 use Prim.Native.Nat.{ℕ}
 use lib.Bits.{or_zero_r}
-use Rattle.std.specs.declared.result.Result.TheVariants.{Ok}
 use Rattle.bits.proofs.Algebra.{or_swap}
 use Rattle.clock.specs.declared.Clock.{Clock}
 use Rattle.platform.specs.declared.settings.Settings.{Settings}
@@ -19,7 +18,7 @@ use Rattle.machine.specs.Scalars.{bare, scalars_of}
 use Rattle.machine.specs.Status.{pwrbtn_bit, wak_bit}
 use Rattle.machine.specs.Sleep.{is_sleeping, state_changed, in_next_state}
 use Rattle.registers.specs.Registers.{status_after, enable_after, in_gpe_status, gpe_sts_byte, gpe_sts_after, gpe_en_after}
-use Rattle.model.specs.Answer.{Answer, first_applying}
+use Rattle.model.specs.Answer.{first_applying}
 use Rattle.model.specs.Bus.{write_of, gpe_written}
 use Rattle.model.specs.Control.{typ_after, completes, armed_after, bm_rld_after, gbl_rls_after, controlled, control_written}
 use Rattle.model.specs.Effect.{stepped_by, unmoved, done, unless_refused, event_write, completing, control_write, sts_byte, en_byte, gpe_write, write_effect, wakes_if, press_wakes, press_effect, release_effect, signal_effect, pin_next, pin_effect, notice_effect, general_byte, general_effect, clock_effect, ticks_effect, effect_by, event_effect, effect_of}
@@ -28,6 +27,8 @@ use Rattle.model.specs.EventKinds as kind
 use Rattle.model.specs.Events.{StatusBit, event_bit, pm1_mask, in_s5, press_of, signal_of, signal_wakes, pin_wakes, pin_of, in_gpe0, general_enabled, general_raised, general_of, timed, clock_after, ticked_by, turns_by, value_by, done_by, event_of}
 use Rattle.model.specs.Firmware.{is_acpi_enable, is_acpi_disable, sci_en_after, enables_after, take_of, drop_of}
 use Rattle.model.specs.Step.{register_of, offset_of, refusals_by, done_value, done_of, answer_to, accepted, step_of}
+use Rattle.model.specs.declared.Answer.{Answer}
+use Rattle.model.specs.declared.Answer.TheVariants as answer
 use Rattle.model.specs.declared.Effect.{Effect}
 use Rattle.model.specs.declared.Register.{Register}
 use Rattle.model.specs.declared.Register.TheVariants as register
@@ -40,7 +41,7 @@ use Rattle.model.proofs.Turns.{turns-awake, turns-asleep}
 
 -- accepted with the value, and this machine after it
 abbrev given : ℕ → Machine → Stepped
-given value m = record { answer = Ok value; machine = m }
+given value m = record { answer = answer.Done value; machine = m }
 
 pub unmoved-stays : (m : Machine) (a : Answer) → stepped_by m (unmoved (scalars_of m) a) ≡ record { answer = a; machine = m }
 unfolding stored stores in_next_state
@@ -109,7 +110,7 @@ clock-does m t false e = rw e refl
 ticks-do : (m : Machine) (n : ℕ) (t : Bool) → awake m ≡ t → stepped_by m (ticks_effect m n) ≡ given (turns_by n m) (ticked_by n m)
 unfolding ticks_effect
 ticks-do m n true e = rw (e, turns-awake n m e, ticks-awake n m e) (clock-does m (clock_after m n) _ refl)
-ticks-do m n false e = rw (e, turns-asleep n m e, ticks-asleep n m e) (unmoved-stays m (Ok 0))
+ticks-do m n false e = rw (e, turns-asleep n m e, ticks-asleep n m e) (unmoved-stays m (answer.Done 0))
 
 event-does : (m : Machine) (bit : StatusBit) (k : EventKind) → stepped_by m (effect_by m bit k) ≡ given (value_by m k) (done_by m bit k)
 unfolding stored stores in_next_state release_effect notice_effect
@@ -147,7 +148,7 @@ pub take-refused : (m : Machine) (a : Answer) → answer_to m step.Take ≡ a �
 unfolding effect_of
 take-refused m a p q = rw (p, q) refl
 
-pub event-refused : (m : Machine) (bit : StatusBit) (k : EventKind) (a : Answer) → first_applying (refusals_by m bit k) (Ok 0) ≡ a → accepted a ≡ false
+pub event-refused : (m : Machine) (bit : StatusBit) (k : EventKind) (a : Answer) → first_applying (refusals_by m bit k) (answer.Done 0) ≡ a → accepted a ≡ false
     → event_effect m bit k ≡ unmoved (scalars_of m) a
 unfolding event_effect
 event-refused m bit k a p q = rw (p, q) refl

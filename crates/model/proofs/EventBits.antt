@@ -6,16 +6,17 @@ use mathlib.Core.Path.{◌≡◌}
 use Prim.Native.Nat.{ℕ, ◌<◌, ◌^◌}
 use lib.Dec.{lit<}
 use lib.Pow.{pow-lt}
-use Rattle.std.specs.declared.result.Result.TheVariants.{Ok}
 use Rattle.bits.specs.Writes.{within}
 use Rattle.platform.specs.Fitted.{status_cells}
 use Rattle.platform.specs.declared.settings.Settings.{Settings}
 use Rattle.machine.specs.declared.Machine.{Machine}
-use Rattle.model.specs.Answer.{Answer, first_applying}
+use Rattle.model.specs.Answer.{first_applying}
 use Rattle.model.specs.Events.{StatusBit, pm1, gpe, event_bit, pm1_mask, event_mask, value_by}
 use Rattle.model.specs.EventKinds.{EventKind, event_kind}
 use Rattle.model.specs.EventKinds as kind
 use Rattle.model.specs.Step.{refusals_by}
+use Rattle.model.specs.declared.Answer.{Answer}
+use Rattle.model.specs.declared.Answer.TheVariants as answer
 use Rattle.model.specs.declared.Event.{Event}
 use Rattle.model.specs.declared.Event.TheVariants as event
 use Rattle.model.proofs.Fitted.{bm-within, gbl-within}
@@ -61,4 +62,4 @@ event-mask-lt e = pm1-or-general (λ bit k. pm1_mask bit < 2 ^ 16) (λ i k l. po
 
 -- the answer to an event, by its bit and its kind
 abbrev pub answer_by : Machine → StatusBit → EventKind → Answer
-answer_by m bit k = first_applying (refusals_by m bit k) (Ok (value_by m k))
+answer_by m bit k = first_applying (refusals_by m bit k) (answer.Done (value_by m k))

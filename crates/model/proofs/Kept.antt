@@ -15,7 +15,6 @@ use lib.Dec.{eqb}
 use lib.ListN.{get_or, drop}
 use lib.Pow.{pow_pos}
 use lib.Seq.{get_or-drop}
-use Rattle.std.specs.declared.result.Result.TheVariants.{Ok, Err}
 use Rattle.lists.specs.Any.{any}
 use Rattle.lists.proofs.Tests.{or_left, and_left, and_right}
 use Rattle.bits.specs.Writes.{kept, taken_by, within}
@@ -50,7 +49,7 @@ use Rattle.model.specs.EventKinds.{EventKind}
 use Rattle.model.specs.Legal.{absent_pair, state_allowed}
 use Rattle.model.specs.Ports.{block_register, register_in, offset_in, register_at, offset_at}
 use Rattle.model.specs.Step.{register_of, offset_of, unfitted, refusals_of, done_of, answer_to, accepted, after}
-use Rattle.model.specs.declared.StepRefusal.TheVariants as refusal
+use Rattle.model.specs.declared.Answer.TheVariants as answer
 use Rattle.model.specs.declared.Event.{Event}
 use Rattle.model.specs.declared.Event.TheVariants as event
 use Rattle.model.specs.declared.Register.{Register}
@@ -283,12 +282,12 @@ passes : (m : Machine) (s : Step) → accepted (answer_to m s) ≡ true → (k :
 passes m s e = (zero-exactly m s).0 (eqb-true _ _ e)
 
 -- an accepted event that asks to be fitted is
-first_fits : (m : Machine) (bit : StatusBit) (ls : List Refusal) (v : ℕ) → accepted (first_applying (unfitted m bit ∷ ls) (Ok v)) ≡ true
+first_fits : (m : Machine) (bit : StatusBit) (ls : List Refusal) (v : ℕ) → accepted (first_applying (unfitted m bit ∷ ls) (answer.Done v)) ≡ true
     → fits m.settings (pm1_mask bit) ≡ true
 unfolding first_applying
 first_fits m bit ls v = go (fits m.settings (pm1_mask bit))
   where
-    go : (t : Bool) → accepted (cond (not t) (Err refusal.NotFitted) (first_applying ls (Ok v))) ≡ true → t ≡ true
+    go : (t : Bool) → accepted (cond (not t) answer.NotFitted (first_applying ls (answer.Done v))) ≡ true → t ≡ true
     go true a = refl
     go false a = absurd (false≢true a)
 

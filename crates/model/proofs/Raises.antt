@@ -12,7 +12,6 @@ use lib.Dec.{eqb, ltb, leb}
 use lib.ListN.{length, get_or, set, replicate, get_or-eq_default}
 use lib.Pow.{pow_pos, pow-lt}
 use lib.Seq.{set_out, get_or-set_same, get_or-set_other}
-use Rattle.std.specs.declared.result.Result.TheVariants.{Ok, Err}
 use Rattle.bits.specs.Writes.{kept, cleared_by, lane}
 use Rattle.bits.proofs.Digits.{below-or-beyond}
 use Rattle.bits.proofs.Algebra.{or_assoc}
@@ -39,7 +38,7 @@ use Rattle.machine.specs.Sleep.{is_sleeping, pending, woken, woken_if, completed
 use Rattle.model.specs.EventKinds.{EventKind, event_kind}
 use Rattle.model.specs.EventKinds as kind
 use Rattle.model.specs.Step.{register_of, offset_of, done_of, answer_to, accepted, after}
-use Rattle.model.specs.declared.StepRefusal.TheVariants as refusal
+use Rattle.model.specs.declared.Answer.TheVariants as answer
 use Rattle.model.specs.declared.Event.{Event}
 use Rattle.model.specs.declared.Event.TheVariants as event
 use Rattle.model.specs.declared.Register.{Register}
@@ -548,7 +547,7 @@ general-accepted : (m : Machine) (k : ℕ) → accepted_by m (gpe k) (kind.gener
 unfolding first_applying
 general-accepted m k = go (in_gpe0 m.settings k || in_gpe1 m.settings k)
   where
-    go : (t : Bool) → accepted (cond (not t) (Err refusal.NoSuchEvent) (Ok 0)) ≡ t
+    go : (t : Bool) → accepted (cond (not t) answer.NoSuchEvent (answer.Done 0)) ≡ t
     go true = refl
     go false = refl
 

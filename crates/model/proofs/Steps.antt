@@ -9,48 +9,55 @@ use mathlib.Core.List.{List, [], ◌∷◌}
 use native.Mathlib.Omega.{arith}
 use borrow.Author.Tests.{eqb-true, eqb-false, eq-eqb, ne_eqb, ltb-true}
 use lib.Dec.{eqb, ltb, lit≤}
-use Rattle.std.specs.declared.result.Result.TheVariants.{Ok, Err}
 use Rattle.lists.specs.Any.{any}
 use Rattle.lists.proofs.Tests.{and_left, and_right}
 use Rattle.bits.proofs.Digits.{below-or-beyond}
 use Rattle.machine.specs.declared.Machine.{Machine}
-use Rattle.model.specs.Answer.{Answer, step_refusal_number, step_number, step_value, Refusal, first_applying}
+use Rattle.model.specs.Answer.{step_number, step_value, Refusal, first_applying}
 use Rattle.model.specs.Events.{StatusBit, event_bit}
 use Rattle.model.specs.EventKinds.{EventKind, event_kind}
 use Rattle.model.specs.EventKinds as kind
 use Rattle.model.specs.Step.{refusals_by, refusals_of, done_value, done_of, answer_to, accepted, after, step_of}
 use Rattle.model.specs.declared.Access.{Access}
+use Rattle.model.specs.declared.Answer.{Answer}
+use Rattle.model.specs.declared.Answer.TheVariants as answer
 use Rattle.model.specs.declared.Step.{Step}
 use Rattle.model.specs.declared.Step.TheVariants as step
-use Rattle.model.specs.declared.StepRefusal.{StepRefusal}
-use Rattle.model.specs.declared.StepRefusal.TheVariants as refusal
 use Rattle.model.proofs.Ticks.{cond_same}
 
 -- ---- answers
 
-refusal-among : (r : StepRefusal) → (20 ≤ step_refusal_number r) × (step_refusal_number r ≤ 31)
-refusal-among refusal.Asleep = (lit≤ tt, lit≤ tt)
-refusal-among refusal.WrongWidth = (lit≤ tt, lit≤ tt)
-refusal-among refusal.DataTooWide = (lit≤ tt, lit≤ tt)
-refusal-among refusal.NoBlock = (lit≤ tt, lit≤ tt)
-refusal-among refusal.NotAllowed = (lit≤ tt, lit≤ tt)
-refusal-among refusal.TimerWritten = (lit≤ tt, lit≤ tt)
-refusal-among refusal.CommandWaits = (lit≤ tt, lit≤ tt)
-refusal-among refusal.NoSleepState = (lit≤ tt, lit≤ tt)
-refusal-among refusal.NotFitted = (lit≤ tt, lit≤ tt)
-refusal-among refusal.NoSuchEvent = (lit≤ tt, lit≤ tt)
-refusal-among refusal.AlreadySo = (lit≤ tt, lit≤ tt)
-refusal-among refusal.NoCommand = (lit≤ tt, lit≤ tt)
-
 -- 0, or 20 to 31
 pub number-among : (a : Answer) → (step_number a ≡ 0) ⊎ ((20 ≤ step_number a) × (step_number a ≤ 31))
-number-among (Ok v) = inl refl
-number-among (Err r) = inr (refusal-among r)
+number-among (answer.Done v) = inl refl
+number-among answer.Asleep = inr (lit≤ tt, lit≤ tt)
+number-among answer.WrongWidth = inr (lit≤ tt, lit≤ tt)
+number-among answer.DataTooWide = inr (lit≤ tt, lit≤ tt)
+number-among answer.NoBlock = inr (lit≤ tt, lit≤ tt)
+number-among answer.NotAllowed = inr (lit≤ tt, lit≤ tt)
+number-among answer.TimerWritten = inr (lit≤ tt, lit≤ tt)
+number-among answer.CommandWaits = inr (lit≤ tt, lit≤ tt)
+number-among answer.NoSleepState = inr (lit≤ tt, lit≤ tt)
+number-among answer.NotFitted = inr (lit≤ tt, lit≤ tt)
+number-among answer.NoSuchEvent = inr (lit≤ tt, lit≤ tt)
+number-among answer.AlreadySo = inr (lit≤ tt, lit≤ tt)
+number-among answer.NoCommand = inr (lit≤ tt, lit≤ tt)
 
 -- a refusal's value is zero
 refusal-value : (a : Answer) → accepted a ≡ false → step_value a ≡ 0
-refusal-value (Ok v) e = cc
-refusal-value (Err r) e = refl
+refusal-value (answer.Done v) e = cc
+refusal-value answer.Asleep e = refl
+refusal-value answer.WrongWidth e = refl
+refusal-value answer.DataTooWide e = refl
+refusal-value answer.NoBlock e = refl
+refusal-value answer.NotAllowed e = refl
+refusal-value answer.TimerWritten e = refl
+refusal-value answer.CommandWaits e = refl
+refusal-value answer.NoSleepState e = refl
+refusal-value answer.NotFitted e = refl
+refusal-value answer.NoSuchEvent e = refl
+refusal-value answer.AlreadySo e = refl
+refusal-value answer.NoCommand e = refl
 
 module _ (m : Machine) (s : Step) where
   -- a refusal leaves the machine as it was
@@ -72,7 +79,7 @@ module _ (m : Machine) (s : Step) where
 
 -- the line has the number, and applies
 abbrev pub applies_as : ℕ → Refusal → Bool
-applies_as k l = eqb (step_refusal_number l.refusal) k && l.applies
+applies_as k l = eqb (step_number l.answer) k && l.applies
 
 -- a line of number k applies
 abbrev pub row_applies : ℕ → List Refusal → Bool
@@ -81,59 +88,59 @@ row_applies k ls = any (applies_as k) ls
 -- each number is above the one before it, the first above b
 abbrev pub rising : ℕ → List Refusal → Bool
 rising b [] = true
-rising b (l ∷ ls) = ltb b (step_refusal_number l.refusal) && rising (step_refusal_number l.refusal) ls
+rising b (l ∷ ls) = ltb b (step_number l.answer) && rising (step_number l.answer) ls
 
 no-row-below : (ls : List Refusal) (b k : ℕ) → rising b ls ≡ true → k ≤ b → row_applies k ls ≡ false
 unfolding any
 no-row-below [] b k r h = refl
 no-row-below (l ∷ ls) b k r h =
-    let above : b < step_refusal_number l.refusal = ltb-true b _ (and_left _ _ r) in
-    rw (ne_eqb (step_refusal_number l.refusal) k (λ e. omega arith))
-    (no-row-below ls (step_refusal_number l.refusal) k (and_right (ltb b (step_refusal_number l.refusal)) _ r) (omega arith))
+    let above : b < step_number l.answer = ltb-true b _ (and_left _ _ r) in
+    rw (ne_eqb (step_number l.answer) k (λ e. omega arith))
+    (no-row-below ls (step_number l.answer) k (and_right (ltb b (step_number l.answer)) _ r) (omega arith))
 
 -- a line that does not apply may be left out
 row-skipped : (l : Refusal) (ls : List Refusal) (k : ℕ) → l.applies ≡ false → row_applies k (l ∷ ls) ≡ row_applies k ls
 unfolding any
-row-skipped l ls k e = rw (e, and-false (eqb (step_refusal_number l.refusal) k))
+row-skipped l ls k e = rw (e, and-false (eqb (step_number l.answer) k))
 
-own_row : (l : Refusal) (ls : List Refusal) → l.applies ≡ true → row_applies (step_refusal_number l.refusal) (l ∷ ls) ≡ true
+own_row : (l : Refusal) (ls : List Refusal) → l.applies ≡ true → row_applies (step_number l.answer) (l ∷ ls) ≡ true
 unfolding any
-own_row l ls e = rw (e, eq-eqb (step_refusal_number l.refusal) (step_refusal_number l.refusal) refl)
+own_row l ls e = rw (e, eq-eqb (step_number l.answer) (step_number l.answer) refl)
 
-other_row : (l : Refusal) (ls : List Refusal) (k : ℕ) → (step_refusal_number l.refusal ≡ k → ⊥) → row_applies k (l ∷ ls) ≡ row_applies k ls
+other_row : (l : Refusal) (ls : List Refusal) (k : ℕ) → (step_number l.answer ≡ k → ⊥) → row_applies k (l ∷ ls) ≡ row_applies k ls
 unfolding any
-other_row l ls k n = rw (ne_eqb (step_refusal_number l.refusal) k n)
+other_row l ls k n = rw (ne_eqb (step_number l.answer) k n)
 
 -- row k applies and no lower one does
 abbrev pub LowestRow : ℕ → List Refusal → Type 0
 LowestRow k ls = (row_applies k ls ≡ true) × ((j : ℕ) → j < k → row_applies j ls ≡ false)
 
 -- a first line that applies has the lowest number: no lower row applies, and none further on is as low
-first-is-lowest : (l : Refusal) (ls : List Refusal) (k : ℕ) → rising (step_refusal_number l.refusal) ls ≡ true → l.applies ≡ true → LowestRow k (l ∷ ls)
-    → step_refusal_number l.refusal ≡ k
-first-is-lowest l ls k more p low = go (eqb (step_refusal_number l.refusal) k) refl
+first-is-lowest : (l : Refusal) (ls : List Refusal) (k : ℕ) → rising (step_number l.answer) ls ≡ true → l.applies ≡ true → LowestRow k (l ∷ ls)
+    → step_number l.answer ≡ k
+first-is-lowest l ls k more p low = go (eqb (step_number l.answer) k) refl
   where
-    go : (t : Bool) → eqb (step_refusal_number l.refusal) k ≡ t → step_refusal_number l.refusal ≡ k
+    go : (t : Bool) → eqb (step_number l.answer) k ≡ t → step_number l.answer ≡ k
     go true q = eqb-true _ _ q
     go false q =
         absurd
-        (below-or-beyond (step_refusal_number l.refusal) k
-        (λ h. false≢true (sym (low.1 (step_refusal_number l.refusal) h) ∙ own_row l ls p))
-        (λ h. false≢true (sym (other_row l ls k (eqb-false _ _ q) ∙ no-row-below ls (step_refusal_number l.refusal) k more h) ∙ low.0)))
+        (below-or-beyond (step_number l.answer) k
+        (λ h. false≢true (sym (low.1 (step_number l.answer) h) ∙ own_row l ls p))
+        (λ h. false≢true (sym (other_row l ls k (eqb-false _ _ q) ∙ no-row-below ls (step_number l.answer) k more h) ∙ low.0)))
 
 module _ (last : Answer) where
   given-lowest : step_number last ≡ 0 → (ls : List Refusal) (b k : ℕ) → rising b ls ≡ true → 0 < k → step_number (first_applying ls last) ≡ k → LowestRow k ls
   unfolding first_applying
   given-lowest done [] b k r h e = absurd (omega arith)
   given-lowest done (l ∷ ls) b k r h e =
-      let more = and_right (ltb b (step_refusal_number l.refusal)) _ r in
-      go more (given-lowest done ls (step_refusal_number l.refusal) k more h) l.applies refl
+      let more = and_right (ltb b (step_number l.answer)) _ r in
+      go more (given-lowest done ls (step_number l.answer) k more h) l.applies refl
     where
-      go : rising (step_refusal_number l.refusal) ls ≡ true → (step_number (first_applying ls last) ≡ k → LowestRow k ls)
+      go : rising (step_number l.answer) ls ≡ true → (step_number (first_applying ls last) ≡ k → LowestRow k ls)
           → (t : Bool) → l.applies ≡ t → LowestRow k (l ∷ ls)
       go more rest true p =
-          let same : step_refusal_number l.refusal ≡ k = rw p at e in
-          (rw (← same) (own_row l ls p), λ j i. other_row l ls j (λ q. omega arith) ∙ no-row-below ls (step_refusal_number l.refusal) j more (omega arith))
+          let same : step_number l.answer ≡ k = rw p at e in
+          (rw (← same) (own_row l ls p), λ j i. other_row l ls j (λ q. omega arith) ∙ no-row-below ls (step_number l.answer) j more (omega arith))
       go more rest false p =
           let lower = rest (rw p at e) in
           (row-skipped l ls k p ∙ lower.0, λ j i. row-skipped l ls j p ∙ lower.1 j i)
@@ -142,11 +149,11 @@ module _ (last : Answer) where
   unfolding first_applying any
   lowest-given [] b k r low = absurd (false≢true low.0)
   lowest-given (l ∷ ls) b k r low =
-      let more = and_right (ltb b (step_refusal_number l.refusal)) _ r in
-      go more (lowest-given ls (step_refusal_number l.refusal) k more) l.applies refl
+      let more = and_right (ltb b (step_number l.answer)) _ r in
+      go more (lowest-given ls (step_number l.answer) k more) l.applies refl
     where
-      go : rising (step_refusal_number l.refusal) ls ≡ true → (LowestRow k ls → step_number (first_applying ls last) ≡ k)
-          → (t : Bool) → l.applies ≡ t → step_number (cond t (Err l.refusal) (first_applying ls last)) ≡ k
+      go : rising (step_number l.answer) ls ≡ true → (LowestRow k ls → step_number (first_applying ls last) ≡ k)
+          → (t : Bool) → l.applies ≡ t → step_number (cond t l.answer (first_applying ls last)) ≡ k
       go more rest true p = first-is-lowest l ls k more p low
       go more rest false p = rest (sym (row-skipped l ls k p) ∙ low.0, λ j i. sym (row-skipped l ls j p) ∙ low.1 j i)
 
@@ -155,13 +162,13 @@ module _ (last : Answer) where
   unfolding first_applying any
   accepted-none [] b r e = (refl, λ k. refl)
   accepted-none (l ∷ ls) b r e =
-      go (accepted-none ls (step_refusal_number l.refusal) (and_right (ltb b (step_refusal_number l.refusal)) _ r)) l.applies refl
+      go (accepted-none ls (step_number l.answer) (and_right (ltb b (step_number l.answer)) _ r)) l.applies refl
     where
       go : (step_number (first_applying ls last) ≡ 0 → (first_applying ls last ≡ last) × ((k : ℕ) → row_applies k ls ≡ false))
-          → (t : Bool) → l.applies ≡ t → (cond t (Err l.refusal) (first_applying ls last) ≡ last) × ((k : ℕ) → row_applies k (l ∷ ls) ≡ false)
+          → (t : Bool) → l.applies ≡ t → (cond t l.answer (first_applying ls last) ≡ last) × ((k : ℕ) → row_applies k (l ∷ ls) ≡ false)
       go rest true p =
-          let above : b < step_refusal_number l.refusal = ltb-true b _ (and_left _ _ r) in
-          let same : step_refusal_number l.refusal ≡ 0 = rw p at e in
+          let above : b < step_number l.answer = ltb-true b _ (and_left _ _ r) in
+          let same : step_number l.answer ≡ 0 = rw p at e in
           absurd (omega arith)
       go rest false p =
           let none = rest (rw p at e) in
@@ -169,17 +176,17 @@ module _ (last : Answer) where
 
 -- which refusal is given does not depend on the value
 value-apart : (v w : ℕ) (ls : List Refusal) (b : ℕ) → rising b ls ≡ true
-    → first_applying ls (Ok w) ≡ cond (accepted (first_applying ls (Ok v))) (Ok w) (first_applying ls (Ok v))
+    → first_applying ls (answer.Done w) ≡ cond (accepted (first_applying ls (answer.Done v))) (answer.Done w) (first_applying ls (answer.Done v))
 unfolding first_applying
 value-apart v w [] b r = refl
 value-apart v w (l ∷ ls) b r =
-    go l.applies (value-apart v w ls (step_refusal_number l.refusal) (and_right (ltb b (step_refusal_number l.refusal)) _ r))
+    go l.applies (value-apart v w ls (step_number l.answer) (and_right (ltb b (step_number l.answer)) _ r))
   where
     go : (t : Bool)
-        → first_applying ls (Ok w) ≡ cond (accepted (first_applying ls (Ok v))) (Ok w) (first_applying ls (Ok v))
-        → cond t (Err l.refusal) (first_applying ls (Ok w))
-        ≡ cond (accepted (cond t (Err l.refusal) (first_applying ls (Ok v)))) (Ok w) (cond t (Err l.refusal) (first_applying ls (Ok v)))
-    go true rest = rw (ne_eqb (step_refusal_number l.refusal) 0 (λ e. omega (arith, ltb-true b _ (and_left _ _ r))))
+        → first_applying ls (answer.Done w) ≡ cond (accepted (first_applying ls (answer.Done v))) (answer.Done w) (first_applying ls (answer.Done v))
+        → cond t l.answer (first_applying ls (answer.Done w))
+        ≡ cond (accepted (cond t l.answer (first_applying ls (answer.Done v)))) (answer.Done w) (cond t l.answer (first_applying ls (answer.Done v)))
+    go true rest = rw (ne_eqb (step_number l.answer) 0 (λ e. omega (arith, ltb-true b _ (and_left _ _ r))))
     go false rest = rest
 
 -- ---- which number is given
@@ -206,7 +213,7 @@ module _ (m : Machine) (s : Step) where
   pub number-exactly : (k : ℕ) → 0 < k → (step_number (answer_to m s) ≡ k) ↔ LowestRow k (refusals_of m s)
   unfolding answer_to
   number-exactly k h =
-      let last = Ok (done_value m s) in
+      let last = answer.Done (done_value m s) in
       (given-lowest last refl (refusals_of m s) 0 k (lines-rise m s) h, lowest-given last (refusals_of m s) 0 k (lines-rise m s))
 
   none-accepted : ((k : ℕ) → row_applies k (refusals_of m s) ≡ false) → (t : Bool) → accepted (answer_to m s) ≡ t → step_number (answer_to m s) ≡ 0
@@ -219,30 +226,30 @@ module _ (m : Machine) (s : Step) where
   pub zero-exactly : (step_number (answer_to m s) ≡ 0) ↔ ((k : ℕ) → row_applies k (refusals_of m s) ≡ false)
   unfolding answer_to
   zero-exactly =
-      (λ e. (accepted-none (Ok (done_value m s)) (refusals_of m s) 0 (lines-rise m s) e).1, λ none. none-accepted none _ refl)
+      (λ e. (accepted-none (answer.Done (done_value m s)) (refusals_of m s) 0 (lines-rise m s) e).1, λ none. none-accepted none _ refl)
 
   -- an accepted step answers with its value
-  pub accepted-answer : accepted (answer_to m s) ≡ true → answer_to m s ≡ Ok (done_value m s)
+  pub accepted-answer : accepted (answer_to m s) ≡ true → answer_to m s ≡ answer.Done (done_value m s)
   unfolding answer_to
-  accepted-answer e = (accepted-none (Ok (done_value m s)) (refusals_of m s) 0 (lines-rise m s) (eqb-true _ _ e)).0
+  accepted-answer e = (accepted-none (answer.Done (done_value m s)) (refusals_of m s) 0 (lines-rise m s) (eqb-true _ _ e)).0
 
   pub accepted-value : accepted (answer_to m s) ≡ true → step_value (answer_to m s) ≡ done_value m s
   accepted-value e = ap step_value (accepted-answer e)
 
 -- the refusal that a step is given, else an acceptance without its value
 abbrev pub refusal_to : Machine → Step → Answer
-refusal_to m s = first_applying (refusals_of m s) (Ok 0)
+refusal_to m s = first_applying (refusals_of m s) (answer.Done 0)
 
 -- the refusal alone, or what the step gives and does
 pub stepped-unless-refused : (m : Machine) (s : Step)
     → step_of m s
-    ≡ cond (accepted (refusal_to m s)) (record { answer = Ok (done_value m s); machine = done_of m s }) (record { answer = refusal_to m s; machine = m })
+    ≡ cond (accepted (refusal_to m s)) (record { answer = answer.Done (done_value m s); machine = done_of m s }) (record { answer = refusal_to m s; machine = m })
 unfolding answer_to after
 stepped-unless-refused m s =
     go (accepted (refusal_to m s)) refl (value-apart 0 (done_value m s) (refusals_of m s) 0 (lines-rise m s))
   where
-    go : (t : Bool) → accepted (refusal_to m s) ≡ t → answer_to m s ≡ cond t (Ok (done_value m s)) (refusal_to m s)
-        → step_of m s ≡ cond t (record { answer = Ok (done_value m s); machine = done_of m s }) (record { answer = refusal_to m s; machine = m })
+    go : (t : Bool) → accepted (refusal_to m s) ≡ t → answer_to m s ≡ cond t (answer.Done (done_value m s)) (refusal_to m s)
+        → step_of m s ≡ cond t (record { answer = answer.Done (done_value m s); machine = done_of m s }) (record { answer = refusal_to m s; machine = m })
     go true p e = rw e refl
     go false p e = rw (e, p) refl
 

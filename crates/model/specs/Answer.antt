@@ -1,47 +1,50 @@
 -- The answers of a step: document 01's number and value for each.
-use Rattle.std.specs.Prelude.{Bool, cond, List, [], ◌∷◌, ℕ, Result, Ok, Err}
-use Rattle.model.specs.declared.StepRefusal.{StepRefusal}
-use Rattle.model.specs.declared.StepRefusal.TheVariants as refusal
+use Rattle.std.specs.Prelude.{Bool, cond, List, [], ◌∷◌, ℕ}
+use Rattle.model.specs.declared.Answer.{Answer}
+use Rattle.model.specs.declared.Answer.TheVariants as answer
 
--- accepted, with the value; or refused
-abbrev pub Answer : Type 0
-Answer = Result ℕ StepRefusal
-
--- each refusal has its number
-abbrev pub step_refusal_number : StepRefusal → ℕ
-step_refusal_number refusal.Asleep = 20
-step_refusal_number refusal.WrongWidth = 21
-step_refusal_number refusal.DataTooWide = 22
-step_refusal_number refusal.NoBlock = 23
-step_refusal_number refusal.NotAllowed = 24
-step_refusal_number refusal.TimerWritten = 25
-step_refusal_number refusal.CommandWaits = 26
-step_refusal_number refusal.NoSleepState = 27
-step_refusal_number refusal.NotFitted = 28
-step_refusal_number refusal.NoSuchEvent = 29
-step_refusal_number refusal.AlreadySo = 30
-step_refusal_number refusal.NoCommand = 31
-
--- "otherwise 0"
+-- "otherwise 0"; each refusal has its number
 abbrev pub step_number : Answer → ℕ
-step_number (Ok v) = 0
-step_number (Err r) = step_refusal_number r
+step_number (answer.Done v) = 0
+step_number answer.Asleep = 20
+step_number answer.WrongWidth = 21
+step_number answer.DataTooWide = 22
+step_number answer.NoBlock = 23
+step_number answer.NotAllowed = 24
+step_number answer.TimerWritten = 25
+step_number answer.CommandWaits = 26
+step_number answer.NoSleepState = 27
+step_number answer.NotFitted = 28
+step_number answer.NoSuchEvent = 29
+step_number answer.AlreadySo = 30
+step_number answer.NoCommand = 31
 
 -- "Value is the reading or the command taken, else zero"; of ticks (request W1), how often the counter's top bit turned
 abbrev pub step_value : Answer → ℕ
-step_value (Ok v) = v
-step_value (Err r) = 0
+step_value (answer.Done v) = v
+step_value answer.Asleep = 0
+step_value answer.WrongWidth = 0
+step_value answer.DataTooWide = 0
+step_value answer.NoBlock = 0
+step_value answer.NotAllowed = 0
+step_value answer.TimerWritten = 0
+step_value answer.CommandWaits = 0
+step_value answer.NoSleepState = 0
+step_value answer.NotFitted = 0
+step_value answer.NoSuchEvent = 0
+step_value answer.AlreadySo = 0
+step_value answer.NoCommand = 0
 
--- a line of the table: its refusal, and whether it applies
+-- a line of the table: its answer, and whether it applies
 pub record Refusal : Type 0 where
-  pub refusal : StepRefusal
+  pub answer : Answer
   pub applies : Bool
 
 infixl 70 ◌if◌
-abbrev pub ◌if◌ : StepRefusal → Bool → Refusal
-r if test = record { refusal = r; applies = test }
+abbrev pub ◌if◌ : Answer → Bool → Refusal
+a if test = record { answer = a; applies = test }
 
 -- "The lowest number that applies is given": the first of the lines that applies, else the last answer
 unfoldable pub first_applying : List Refusal → Answer → Answer
 first_applying [] last = last
-first_applying (l ∷ ls) last = cond l.applies (Err l.refusal) (first_applying ls last)
+first_applying (l ∷ ls) last = cond l.applies l.answer (first_applying ls last)

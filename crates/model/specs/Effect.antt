@@ -1,6 +1,6 @@
 -- A step as its effect: the answer, the machine's scalars by the step's own rule, the general event byte that it stores, and what becomes of the
 -- sleep state. That a step is its effect, done to the machine, is `effect-law` of `proofs/Effects.antt`.
-use Rattle.std.specs.Prelude.{Bool, true, false, Option, Some, None, cond, ◌&&◌, ◌||◌, List, ℕ, ◌-◌, ◌/◌, ◌%◌, ◌^◌, eqb, get_or, Ok, Err}
+use Rattle.std.specs.Prelude.{Bool, true, false, Option, Some, None, cond, ◌&&◌, ◌||◌, List, ℕ, ◌-◌, ◌/◌, ◌%◌, ◌^◌, eqb, get_or}
 use Rattle.std.specs.Bool.{then_some}
 use Rattle.std.specs.Option.{is_none}
 use Rattle.std.specs.Int.Bits.{bit_or}
@@ -24,20 +24,21 @@ use Rattle.machine.specs.Scalars.{scalars_of}
 use Rattle.machine.specs.Status.{pciexp_wake_bit}
 use Rattle.machine.specs.Sleep.{is_sleeping}
 use Rattle.registers.specs.Registers.{status_after, enable_after, gpe_half, gpe_sts_byte, in_gpe_status}
-use Rattle.model.specs.Answer.{Answer, first_applying}
+use Rattle.model.specs.Answer.{first_applying}
 use Rattle.model.specs.Control.{completes, named_state, entered_state, controlled}
 use Rattle.model.specs.EventKinds.{EventKind, event_kind}
 use Rattle.model.specs.EventKinds as kind
 use Rattle.model.specs.Events.{StatusBit, gpe, event_bit, pm1_mask, event_mask, event_source, source_of, raised, is_s5, in_s5, release_of, signal_wakes, pin_wakes, in_gpe0, number_in, general_enabled, clock_after, tmr_raised}
 use Rattle.model.specs.Firmware.{take_of, drop_of}
 use Rattle.model.specs.Step.{register_of, offset_of, register_refusals, refusals_by, answer_to, accepted}
+use Rattle.model.specs.declared.Answer.{Answer}
+use Rattle.model.specs.declared.Answer.TheVariants as answer
 use Rattle.model.specs.declared.Effect.{Effect}
 use Rattle.model.specs.declared.Event.TheVariants as event
 use Rattle.model.specs.declared.Register.{Register}
 use Rattle.model.specs.declared.Register.TheVariants as register
 use Rattle.model.specs.declared.Step.{Step}
 use Rattle.model.specs.declared.Step.TheVariants as step
-use Rattle.model.specs.declared.StepRefusal.TheVariants as refusal
 use Rattle.model.specs.declared.Stepped.{Stepped}
 
 -- the effect done to the machine
@@ -50,7 +51,7 @@ unmoved x a = record { answer = a; scalars = x; store = no_store; next = None }
 
 -- accepted, with the value
 abbrev pub done : ℕ → Scalars → Option StateChange → Effect
-done value x next = record { answer = Ok value; scalars = x; store = no_store; next = next }
+done value x next = record { answer = answer.Done value; scalars = x; store = no_store; next = next }
 
 -- a refusal leaves the machine as it was
 abbrev pub unless_refused : Machine → Answer → Effect → Effect
@@ -69,7 +70,7 @@ completing m b width offset written =
 -- a write to a control register: 27, or what it does
 unfoldable pub control_write : Machine → Bool → ℕ → ℕ → ℕ → Effect
 control_write m b width offset written =
-    cond (completes m b width offset written && is_none (named_state m b width offset written)) (unmoved (scalars_of m) (Err refusal.NoSleepState))
+    cond (completes m b width offset written && is_none (named_state m b width offset written)) (unmoved (scalars_of m) answer.NoSleepState)
     (done 0 (scalars_of (controlled m b width offset written)) (completing m b width offset written))
 
 -- the block's status array, and its enable array
@@ -87,7 +88,7 @@ abbrev pub en_byte : Settings → Bool → ℕ → ℕ → GpeStore
 en_byte s b offset written = record { place = offset - gpe_half s b; byte = written % 2 ^ 8; walks = true; array = en_array b }
 
 abbrev pub gpe_write : Scalars → GpeStore → Effect
-gpe_write x store = record { answer = Ok 0; scalars = x; store = store; next = None }
+gpe_write x store = record { answer = answer.Done 0; scalars = x; store = store; next = None }
 
 -- an accepted write, by its register
 unfoldable pub write_effect : Machine → Register → ℕ → ℕ → ℕ → Effect
@@ -96,15 +97,15 @@ write_effect m (register.Pm1Evt b) width offset written = done 0 (event_write m 
 write_effect m (register.Pm1Cnt b) width offset written =
     done 0 (scalars_of (controlled m b width offset written)) (completing m b width offset written)
 write_effect m register.Pm2Cnt width offset written = done 0 (scalars_of (with_arb_dis m (eqb (written / 2 ^ ARB_DIS % 2) 1))) None
-write_effect m register.PmTmr width offset written = unmoved (scalars_of m) (Ok 0)
+write_effect m register.PmTmr width offset written = unmoved (scalars_of m) (answer.Done 0)
 write_effect m (register.Gpe b) width offset written =
     cond (in_gpe_status m.settings b offset) (gpe_write (scalars_of m) (sts_byte (gpe_sts_byte m b offset) b offset written)) (gpe_write (scalars_of m) (en_byte m.settings b offset written))
-write_effect m register.Nowhere width offset written = unmoved (scalars_of m) (Ok 0)
+write_effect m register.Nowhere width offset written = unmoved (scalars_of m) (answer.Done 0)
 
 -- a write in S0 of a right width: 23 to 27, or what the register's rule says
 unfoldable pub register_write : Machine → Register → ℕ → ℕ → ℕ → Effect
 register_write m r width offset written =
-    unless_refused m (first_applying (register_refusals m r width offset written) (Ok 0)) (write_effect m r width offset written)
+    unless_refused m (first_applying (register_refusals m r width offset written) (answer.Done 0)) (write_effect m r width offset written)
 
 -- ---- events
 
@@ -125,7 +126,7 @@ release_effect m = done 0 (scalars_of (release_of m)) None
 
 unfoldable pub signal_effect : Machine → StatusBit → Effect
 signal_effect m bit =
-    cond (in_s5 m) (unmoved (scalars_of m) (Ok 0))
+    cond (in_s5 m) (unmoved (scalars_of m) (answer.Done 0))
     (done 0 (scalars_of (raised m (pm1_mask bit))) (wakes_if m.state (source_of bit) (signal_wakes m (pm1_mask bit))))
 
 -- the pin at its level, and its bit where it wakes
@@ -151,9 +152,9 @@ general_byte s sts0 sts1 k = cond (in_gpe0 s k) (raised_byte sts0 k array.Gpe0St
 
 unfoldable pub general_effect : Machine → ℕ → Effect
 general_effect m k =
-    cond (in_s5 m) (unmoved (scalars_of m) (Ok 0))
+    cond (in_s5 m) (unmoved (scalars_of m) (answer.Done 0))
     (record {
-      answer = Ok 0;
+      answer = answer.Done 0;
       scalars = scalars_of (with_gpe_pending m (general_enabled m k || m.gpe_pending));
       store = general_byte m.settings m.gpe0_sts m.gpe1_sts k;
       next = wakes_if m.state (source_of (gpe k)) (general_enabled m k);
@@ -169,7 +170,7 @@ clock_effect m t =
 
 -- n ticks at once, "in S0 only"
 unfoldable pub ticks_effect : Machine → ℕ → Effect
-ticks_effect m n = cond (awake m) (clock_effect m (clock_after m n)) (unmoved (scalars_of m) (Ok 0))
+ticks_effect m n = cond (awake m) (clock_effect m (clock_after m n)) (unmoved (scalars_of m) (answer.Done 0))
 
 -- an accepted event, by its bit and its kind
 abbrev pub effect_by : Machine → StatusBit → EventKind → Effect
@@ -183,7 +184,7 @@ effect_by m bit (kind.ticks n) = ticks_effect m n
 
 -- an event, refused or accepted, by its bit and its kind
 unfoldable pub event_effect : Machine → StatusBit → EventKind → Effect
-event_effect m bit k = unless_refused m (first_applying (refusals_by m bit k) (Ok 0)) (effect_by m bit k)
+event_effect m bit k = unless_refused m (first_applying (refusals_by m bit k) (answer.Done 0)) (effect_by m bit k)
 
 -- ---- every step
 

@@ -23,11 +23,12 @@ use Rattle.platform.specs.Answer.{if_done}
 use Rattle.platform.specs.declared.rules.SetUpRefusal.{SetUpRefusal}
 use Rattle.machine.specs.declared.Machine.{Machine}
 use Rattle.machine.specs.declared.SetUp.{SetUp}
-use Rattle.model.specs.Answer.{Answer, step_number}
+use Rattle.model.specs.Answer.{step_number}
 use Rattle.model.specs.Step.{step_of}
+use Rattle.model.specs.declared.Answer.{Answer}
+use Rattle.model.specs.declared.Answer.TheVariants as reply
 use Rattle.model.specs.declared.Step.{Step}
 use Rattle.model.specs.declared.Stepped.{Stepped}
-use Rattle.model.proofs.Steps.{number-among}
 use Rattle.listing.specs.Entry.{header, entry, entry_length, put_at}
 use Rattle.listing.proofs.Laws.{entry_length_lem}
 use Rattle.script.specs.StepLine.{line_of}
@@ -170,7 +171,19 @@ module _ {A : Type 0} (table script : List ℕ) (done : Machine → A) (refused 
 
 -- no answer's number has more than two digits
 number_short : (a : Answer) → step_number a < 100
-number_short a = elim (number-among a) [ inl e ↦ omega arith | inr h ↦ omega arith ]
+number_short (reply.Done v) = omega arith
+number_short reply.Asleep = omega arith
+number_short reply.WrongWidth = omega arith
+number_short reply.DataTooWide = omega arith
+number_short reply.NoBlock = omega arith
+number_short reply.NotAllowed = omega arith
+number_short reply.TimerWritten = omega arith
+number_short reply.CommandWaits = omega arith
+number_short reply.NoSleepState = omega arith
+number_short reply.NotFitted = omega arith
+number_short reply.NoSuchEvent = omega arith
+number_short reply.AlreadySo = omega arith
+number_short reply.NoCommand = omega arith
 
 -- a larger number has no fewer digits
 count-grows : (k n : ℕ) → k ≤ n → digit_count 10 k ≤ digit_count 10 n

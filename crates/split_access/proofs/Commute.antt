@@ -10,8 +10,8 @@ use Rattle.runs.proofs.Runs.{Commute}
 use Rattle.platform.specs.declared.settings.Settings.{Settings}
 use Rattle.machine.specs.declared.Machine.{Machine}
 use Rattle.machine.specs.Fields.{with_event, with_gpe, with_wake_pin}
-use Rattle.model.specs.Answer.{Answer}
 use Rattle.model.specs.Step.{answer_to, after}
+use Rattle.model.specs.declared.Answer.{Answer}
 use Rattle.model.specs.declared.Event.{Event}
 use Rattle.model.specs.declared.Step.TheVariants as step
 use Rattle.split_access.proofs.Effects.{Effect, answered, affected, effect_of, On, event-affects}

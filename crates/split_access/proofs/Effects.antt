@@ -9,14 +9,13 @@ use Prim.Native.Nat.{ℕ}
 use native.Mathlib.Omega.{arith}
 use lib.Bits.{or_zero_r}
 use lib.Dec.{eqb}
-use Rattle.std.specs.declared.result.Result.TheVariants.{Ok, Err}
 use Rattle.clock.specs.Clock.{start_of}
 use Rattle.clock.specs.Clock as clock
 use Rattle.clock.specs.declared.Clock.{Clock}
 use Rattle.platform.specs.Fitted.{wide_timer}
 use Rattle.platform.specs.declared.settings.Settings.{Settings}
 use Rattle.machine.specs.declared.Machine.{Machine}
-use Rattle.model.specs.Answer.{Answer, first_applying}
+use Rattle.model.specs.Answer.{first_applying}
 use Rattle.machine.specs.Status.{tmr_bit}
 use Rattle.model.specs.Events.{StatusBit, pm1, gpe, event_bit, pm1_mask, fits, raised, press_of, signal_of, pin_of, general_of, general_raised, general_enabled, in_gpe0, in_gpe1, with_bit, is_enabled, number_in, in_s5, tmr_raised, timed, ticked_by, done_by, event_of}
 use Rattle.machine.specs.Fields.{with_gpe, with_button, with_time, with_wake_pin}
@@ -30,9 +29,10 @@ use Rattle.model.proofs.EventBits.{Pair, pair_of, answer_by}
 use Rattle.model.proofs.EventBits as pair
 use Rattle.model.proofs.Ticks.{ticks-awake}
 use Rattle.model.proofs.Turns.{turns-awake}
+use Rattle.model.specs.declared.Answer.{Answer}
+use Rattle.model.specs.declared.Answer.TheVariants as answer
 use Rattle.model.specs.declared.Event.{Event}
 use Rattle.model.specs.declared.Step.TheVariants as step
-use Rattle.model.specs.declared.StepRefusal.TheVariants as refusal
 
 -- an event's effect, as a function of the button, hold and the counter, of the wake pin, of the general status bytes, and of the general enables: whether it is pending
 pub record Effect : Type 0 where
@@ -93,12 +93,12 @@ abbrev is_fitted : Settings → StatusBit → Bool
 is_fitted s bit = fits s (pm1_mask bit)
 
 abbrev fitted_answer : Settings → StatusBit → Answer
-fitted_answer s bit = cond (not (is_fitted s bit)) (Err refusal.NotFitted) (Ok 0)
+fitted_answer s bit = cond (not (is_fitted s bit)) answer.NotFitted (answer.Done 0)
 
 abbrev pub live_of : Settings → StatusBit → EventKind → Live
 live_of s bit kind.press =
     record {
-      answer = λ b h c p. cond (not (is_fitted s bit)) (Err refusal.NotFitted) (cond b (Err refusal.AlreadySo) (Ok 0));
+      answer = λ b h c p. cond (not (is_fitted s bit)) answer.NotFitted (cond b answer.AlreadySo (answer.Done 0));
       sets = λ b h c. is_fitted s bit && not b;
       button = λ b. is_fitted s bit || b;
       hold = λ b h c. cond (is_fitted s bit && not b) 0 h;
@@ -108,7 +108,7 @@ live_of s bit kind.press =
     }
 live_of s bit kind.release =
     record {
-      answer = λ b h c p. cond (not (is_fitted s bit)) (Err refusal.NotFitted) (cond (not b) (Err refusal.AlreadySo) (Ok 0));
+      answer = λ b h c p. cond (not (is_fitted s bit)) answer.NotFitted (cond (not b) answer.AlreadySo (answer.Done 0));
       sets = λ b h c. false;
       button = λ b. not (is_fitted s bit) && b;
       hold = λ b h c. h;
@@ -119,7 +119,7 @@ live_of s bit kind.release =
 live_of s bit kind.signal = quiet (fitted_answer s bit) (is_fitted s bit)
 live_of s bit (kind.pin active) =
     record {
-      answer = λ b h c p. cond (not (is_fitted s bit)) (Err refusal.NotFitted) (cond (beq p active) (Err refusal.AlreadySo) (Ok 0));
+      answer = λ b h c p. cond (not (is_fitted s bit)) answer.NotFitted (cond (beq p active) answer.AlreadySo (answer.Done 0));
       sets = λ b h c. false;
       button = λ b. b;
       hold = λ b h c. h;
@@ -127,11 +127,11 @@ live_of s bit (kind.pin active) =
       off = λ b h c. false;
       pin = λ p. cond (is_fitted s bit) active p;
     }
-live_of s bit kind.notice = quiet (Ok 0) true
-live_of s bit (kind.general k) = quiet (cond (not (in_gpe0 s k || in_gpe1 s k)) (Err refusal.NoSuchEvent) (Ok 0)) false
+live_of s bit kind.notice = quiet (answer.Done 0) true
+live_of s bit (kind.general k) = quiet (cond (not (in_gpe0 s k || in_gpe1 s k)) answer.NoSuchEvent (answer.Done 0)) false
 live_of s bit (kind.ticks n) =
     record {
-      answer = λ b h c p. Ok (clock_ticks s n b h c).turns;
+      answer = λ b h c p. answer.Done (clock_ticks s n b h c).turns;
       sets = λ b h c. fits s tmr_bit && not (eqb (clock_ticks s n b h c).turns 0);
       button = λ b. b;
       hold = λ b h c. (clock_ticks s n b h c).hold;
@@ -250,7 +250,7 @@ module _ (m : Machine) (n : ℕ) (z : m.state ≡ 0) where
 
   ticks-affects : run_out ≡ false → AffectsBy m (pm1 0) (kind.ticks n)
   unfolding first_applying timed tmr_raised
-  ticks-affects on = (ap Ok (turns-awake n m (awake-here m z)), ticks-awake n m (awake-here m z) ∙ rw on refl)
+  ticks-affects on = (ap answer.Done (turns-awake n m (awake-here m z)), ticks-awake n m (awake-here m z) ∙ rw on refl)
 
   -- ticks bring no override, or end in S5
   ticks-on-or-off : (run_out ≡ false) ⊎ ((after_by m (pm1 0) (kind.ticks n)).state ≡ 5)

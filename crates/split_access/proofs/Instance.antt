@@ -6,19 +6,18 @@ use mathlib.Core.Path.{◌≡◌, refl}
 use Prim.Native.Nat.{ℕ}
 use native.Mathlib.Omega.{arith}
 use lib.ListN.{set}
-use Rattle.std.specs.declared.result.Result.TheVariants.{Ok, Err}
 use Rattle.runs.specs.Items.{Item, one, control, event, original, moved, step_in, steps_of, Every, Run, Awake}
 use Rattle.machine.specs.Fields.{with_event, with_gpe, with_control, with_time, enter}
 use Rattle.machine.specs.PowerOn.{no_bytes}
 use Rattle.machine.specs.SetUp.{set_up_of}
 use Rattle.machine.specs.declared.Machine.{Machine}
-use Rattle.model.specs.Answer.{Answer}
 use Rattle.model.specs.Step.{answer_to, after, step_of}
+use Rattle.model.specs.declared.Answer.{Answer}
+use Rattle.model.specs.declared.Answer.TheVariants as answer
 use Rattle.model.specs.declared.Event.{Event}
 use Rattle.model.specs.declared.Event.TheVariants as event
 use Rattle.model.specs.declared.Step.{Step}
 use Rattle.model.specs.declared.Step.TheVariants as step
-use Rattle.model.specs.declared.StepRefusal.TheVariants as refusal
 use Rattle.split_access.specs.Start.{InS0}
 use Rattle.split_access.specs.Gap.{before}
 use Rattle.split_access.specs.Claims.{reads, writes, gap_step, Gap, ItemOn, step-item, control-item, event-item, MovesFrom}
@@ -30,10 +29,10 @@ abbrev read_of : ℕ → Answer → Step × Answer
 read_of port a = (step.Read (record { port = port; width = 2 }), a)
 
 abbrev write_of : ℕ → ℕ → Step × Answer
-write_of port written = (step.Write (record { port = port; width = 2 }) written, Ok 0)
+write_of port written = (step.Write (record { port = port; width = 2 }) written, answer.Done 0)
 
 abbrev did : Event → Step × Answer
-did e = (step.Event e, Ok 0)
+did e = (step.Event e, answer.Done 0)
 
 abbrev refused : Event → Answer → Step × Answer
 refused e a = (step.Event e, a)
@@ -43,16 +42,16 @@ refused e a = (step.Event e, a)
 abbrev items : List (Item (Step × Answer))
 items =
     one (did event.SleepPress)
-    ∷ event (read_of 0x400 (Ok 0x200))
-    (did event.Press ∷ did event.Alarm ∷ did (event.General 3) ∷ refused event.PinActive (Err refusal.NotFitted) ∷ [])
-    (read_of 0x440 (Ok 0x400))
+    ∷ event (read_of 0x400 (answer.Done 0x200))
+    (did event.Press ∷ did event.Alarm ∷ did (event.General 3) ∷ refused event.PinActive answer.NotFitted ∷ [])
+    (read_of 0x440 (answer.Done 0x400))
     ∷ event (write_of 0x400 0x200)
     (did (event.Ticks 2) ∷ did event.Alarm ∷ [])
     (write_of 0x440 0x400)
     ∷ control (write_of 0x404 0x3400)
-    (did (event.General 9) ∷ did event.Release ∷ refused (event.General 16) (Err refusal.NoSuchEvent) ∷ [])
+    (did (event.General 9) ∷ did event.Release ∷ refused (event.General 16) answer.NoSuchEvent ∷ [])
     (write_of 0x444 0x2800)
-    ∷ one (read_of 0x400 (Err refusal.Asleep))
+    ∷ one (read_of 0x400 answer.Asleep)
     ∷ []
 
 -- the same in the order of demand 3
@@ -60,21 +59,21 @@ abbrev moved_items : List (Step × Answer)
 moved_items =
     did event.SleepPress
     ∷ did event.Alarm
-    ∷ read_of 0x400 (Ok 0x200)
-    ∷ read_of 0x440 (Ok 0x400)
+    ∷ read_of 0x400 (answer.Done 0x200)
+    ∷ read_of 0x440 (answer.Done 0x400)
     ∷ did event.Press
     ∷ did (event.General 3)
-    ∷ refused event.PinActive (Err refusal.NotFitted)
+    ∷ refused event.PinActive answer.NotFitted
     ∷ did event.Alarm
     ∷ write_of 0x400 0x200
     ∷ write_of 0x440 0x400
     ∷ did (event.Ticks 2)
     ∷ did (event.General 9)
     ∷ did event.Release
-    ∷ refused (event.General 16) (Err refusal.NoSuchEvent)
+    ∷ refused (event.General 16) answer.NoSuchEvent
     ∷ write_of 0x404 0x3400
     ∷ write_of 0x444 0x2800
-    ∷ read_of 0x400 (Err refusal.Asleep)
+    ∷ read_of 0x400 answer.Asleep
     ∷ []
 
 -- asleep in S3, with the press kept, and two general events: bit 3 of the first byte and bit 1 of the second

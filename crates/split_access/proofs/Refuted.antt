@@ -7,15 +7,16 @@ use mathlib.Core.Logic.{inl, inr}
 use mathlib.Core.Path.{◌≡◌, refl, sym, ap}
 use Prim.Native.Nat.{ℕ}
 use native.Mathlib.Omega.{arith}
-use Rattle.std.specs.declared.result.Result.TheVariants.{Ok}
 use Rattle.runs.specs.Items.{Item, event, steps_of, Every}
 use Rattle.platform.specs.Blocks.{present}
 use Rattle.machine.specs.Fields.{with_event, with_button, with_time}
 use Rattle.registers.specs.Registers.{in_gpe_status, gpe_sts_after, gpe_en_after}
 use Rattle.machine.specs.Lines.{smi_of}
 use Rattle.machine.specs.SetUp.{set_up_of}
-use Rattle.model.specs.Answer.{Answer, step_value}
+use Rattle.model.specs.Answer.{step_value}
 use Rattle.model.specs.Step.{step_of}
+use Rattle.model.specs.declared.Answer.{Answer}
+use Rattle.model.specs.declared.Answer.TheVariants as answer
 use Rattle.model.specs.declared.Event.TheVariants as event
 use Rattle.model.specs.declared.Step.{Step}
 use Rattle.model.specs.declared.Step.TheVariants as step
@@ -117,7 +118,7 @@ status_b = read 0x440
 
 -- a split read of the status with an alarm in its gap, which the second half shows
 abbrev alarm_in_gap : List (Item (Step × Answer))
-alarm_in_gap = event (status_a, Ok 0) ((step.Event event.Alarm, Ok 0) ∷ []) (status_b, Ok 0x400) ∷ []
+alarm_in_gap = event (status_a, answer.Done 0) ((step.Event event.Alarm, answer.Done 0) ∷ []) (status_b, answer.Done 0x400) ∷ []
 
 alarm-gap : Gap (step.Event event.Alarm ∷ [])
 unfolding steps-compute
@@ -139,9 +140,9 @@ one-register-moves-refuted d =
 -- ticks and then a press of home B: the press is moved before the ticks, which then find the button down
 abbrev mixed_gap : List (Item (Step × Answer))
 mixed_gap =
-    event (status_a, Ok 0)
-    ((step.Event (event.Ticks 1), Ok 0) ∷ (step.Event event.Press, Ok 0) ∷ [])
-    (status_b, Ok 0x100) ∷ []
+    event (status_a, answer.Done 0)
+    ((step.Event (event.Ticks 1), answer.Done 0) ∷ (step.Event event.Press, answer.Done 0) ∷ [])
+    (status_b, answer.Done 0x100) ∷ []
 
 mixed-steps : Every GapStep (step.Event (event.Ticks 1) ∷ step.Event event.Press ∷ [])
 unfolding Every

@@ -3,13 +3,13 @@ use mathlib.Core.Bool.{Bool, true, false}
 use mathlib.Core.List.{List, [], ◌∷◌}
 use mathlib.Core.Path.{◌≡◌, refl}
 use Prim.Native.Nat.{ℕ}
-use Rattle.std.specs.declared.result.Result.TheVariants.{Ok}
 use Rattle.machine.specs.SetUp.{set_up_of}
 use Rattle.machine.specs.Lines.{sci_of, smi_of}
 use Rattle.machine.specs.declared.Machine.{Machine}
-use Rattle.model.specs.Answer.{Answer}
 use Rattle.model.specs.Firmware.{is_acpi_enable, is_acpi_disable, sci_en_after, enables_after}
 use Rattle.model.specs.Step.{step_of}
+use Rattle.model.specs.declared.Answer.{Answer}
+use Rattle.model.specs.declared.Answer.TheVariants as answer
 use Rattle.model.specs.declared.Event.TheVariants as event
 use Rattle.model.specs.declared.Step.{Step}
 use Rattle.model.specs.declared.Step.TheVariants as step
@@ -24,7 +24,7 @@ pub record Listed : Type 0 where
   pub state : ℕ
 
 abbrev line : Step → ℕ → Bool → Bool → ℕ → Listed
-line s value sci smi state = record { step = s; answer = Ok value; sci = sci; smi = smi; state = state }
+line s value sci smi state = record { step = s; answer = answer.Done value; sci = sci; smi = smi; state = state }
 
 abbrev r : ℕ → ℕ → Step
 r port width = step.Read (record { port = port; width = width })

@@ -6,7 +6,6 @@ use Prim.Native.Nat.{ℕ}
 use native.Mathlib.Omega.{arith}
 use borrow.Author.Tests.{eqb-true, not-false}
 use lib.Dec.{eqb}
-use Rattle.std.specs.declared.result.Result.TheVariants.{Ok}
 use Rattle.lists.proofs.Tests.{and_left}
 use Rattle.clock.specs.Clock as clock
 use Rattle.platform.specs.declared.settings.Settings.{Settings}
@@ -15,6 +14,7 @@ use Rattle.model.specs.Events.{StatusBit, pm1, gpe, event_bit, fits}
 use Rattle.model.specs.EventKinds.{EventKind}
 use Rattle.model.specs.EventKinds as kind
 use Rattle.model.specs.Raises.{bits_if}
+use Rattle.model.specs.declared.Answer.TheVariants as answer
 use Rattle.model.specs.declared.Event.{Event}
 use Rattle.model.proofs.EventBits.{Pair, pair_of}
 use Rattle.model.proofs.EventBits as pair
@@ -33,7 +33,7 @@ true-false e = let z : ◌≡◌ {A = ℕ} 0 1 = cc in absurd (zero_one z)
 ticks-none : (s : Settings) (n : ℕ) → n ≡ 0 → Quiet (effect_by s (pm1 0) (kind.ticks n))
 unfolding clock.ticks_of
 ticks-none s n e =
-    record { answer = λ p. Ok 0; mask = bits_if (fits s tmr_bit && false) tmr_bit; pin = λ p. p; gpe0 = λ xs. xs; gpe1 = λ xs. xs; pending = λ es fs. false; is = rw e refl }
+    record { answer = λ p. answer.Done 0; mask = bits_if (fits s tmr_bit && false) tmr_bit; pin = λ p. p; gpe0 = λ xs. xs; gpe1 = λ xs. xs; pending = λ es fs. false; is = rw e refl }
 
 -- neither a button nor ticks
 quiet-kind : (s : Settings) {bit : StatusBit} {k : EventKind} → Pair bit k → is_pm1_bit 8 bit ≡ false → (is_pm1_bit 0 bit && not (eqb (ticks_in k) 0)) ≡ false

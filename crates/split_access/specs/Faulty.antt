@@ -1,7 +1,7 @@
 -- Three steps that were paid for and failed, one that does not look for pending general events, demand 3 changed in two ways, and the write-back without
 -- its exemption.
 -- That each is wrong is shown in `proofs/Refuted.antt`. The numbered quotations are the customer's demands'.
-use Rattle.std.specs.Prelude.{Bool, true, false, not, cond, ◌&&◌, ℕ, Ok}
+use Rattle.std.specs.Prelude.{Bool, true, false, not, cond, ◌&&◌, ℕ}
 use Rattle.std.specs.Int.Bits.{bit_and}
 use Rattle.bits.specs.Writes.{kept}
 use Rattle.runs.specs.Items.{Item, Every}
@@ -14,6 +14,7 @@ use Rattle.model.specs.Bus.{write_of}
 use Rattle.model.specs.Control.{completes, entered_state, controlled}
 use Rattle.model.specs.Step.{register_of, offset_of, answer_to, accepted, after, step_of}
 use Rattle.model.specs.declared.Access.{Access}
+use Rattle.model.specs.declared.Answer.TheVariants as answer
 use Rattle.model.specs.declared.Register.{Register}
 use Rattle.model.specs.declared.Register.TheVariants as register
 use Rattle.model.specs.declared.Step.{Step}
@@ -60,12 +61,12 @@ clears_all = writing_by wiped
 abbrev pub as_one : Stepping
 as_one m (step.Read a) =
     cond (at_status m a)
-    (record { answer = Ok (shown a.width (offset_of m a) (bit_and m.pm1_sts (status_cells m.settings))); machine = m })
+    (record { answer = answer.Done (shown a.width (offset_of m a) (bit_and m.pm1_sts (status_cells m.settings))); machine = m })
     (step_of m (step.Read a))
 as_one m (step.Write a written) =
     let ones = bit_and (placed (offset_of m a) written) (bit_and (status_cells m.settings) (covered a.width (offset_of m a))) in
     cond (at_status m a)
-    (record { answer = Ok 0; machine = with_event m (kept 16 m.pm1_sts ones) m.pm1_en })
+    (record { answer = answer.Done 0; machine = with_event m (kept 16 m.pm1_sts ones) m.pm1_en })
     (step_of m (step.Write a written))
 as_one m (step.Event e) = step_of m (step.Event e)
 as_one m step.Take = step_of m step.Take

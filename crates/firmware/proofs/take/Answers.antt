@@ -1,10 +1,9 @@
-use Rattle.std.specs.declared.result.Result.TheVariants.{Err}
 use Rattle.machine.specs.Lines.{awake}
 use mathlib.Core.Path.{refl, sym, ◌∙◌}
 use Rattle.model.specs.Effect.{effect_of}
 use Rattle.model.specs.Answer.{first_applying}
 use Rattle.model.specs.Step.{answer_to}
-use Rattle.model.specs.declared.StepRefusal.TheVariants as refusal
+use Rattle.model.specs.declared.Answer.TheVariants as answer
 use Rattle.model.proofs.Effects.{take-refused}
 use Rattle.firmware.proofs.take.Goals as goal
 
@@ -16,7 +15,7 @@ pub returns-else-x : goal.returns-else-x
 unfolding awake answer_to first_applying
 returns-else-x c =
     c.unmoved.ensures
-    ∙ sym (take-refused _ (Err refusal.NoCommand) (simp (c.if-x.false, sym c.awake.ensures ∙ c.if-awake.true)) refl)
+    ∙ sym (take-refused _ answer.NoCommand (simp (c.if-x.false, sym c.awake.ensures ∙ c.if-awake.true)) refl)
 
 pub returns-else-awake : goal.returns-else-awake
 unfolding awake effect_of answer_to first_applying

@@ -1,8 +1,7 @@
 use mathlib.Core.Path.{refl, sym, ◌∙◌}
-use Rattle.std.specs.declared.result.Result.TheVariants.{Err}
 use Rattle.model.specs.Effect.{event_effect, pin_effect}
 use Rattle.model.specs.Answer.{first_applying}
-use Rattle.model.specs.declared.StepRefusal.TheVariants as refusal
+use Rattle.model.specs.declared.Answer.TheVariants as answer
 use Rattle.model.proofs.Effects.{event-refused}
 use Rattle.events.proofs.buttons.pin.Goals as goal
 
@@ -10,7 +9,7 @@ pub returns-then-x-active : goal.returns-then-x-active
 unfolding first_applying
 returns-then-x-active c =
     c.unmoved.ensures
-    ∙ sym (event-refused _ _ _ (Err refusal.AlreadySo) (simp (c.if-x-active.true, sym c.fits.ensures ∙ c.if-fits.true)) refl)
+    ∙ sym (event-refused _ _ _ answer.AlreadySo (simp (c.if-x-active.true, sym c.fits.ensures ∙ c.if-fits.true)) refl)
 
 pub returns-else-x-active : goal.returns-else-x-active
 unfolding event_effect first_applying pin_effect

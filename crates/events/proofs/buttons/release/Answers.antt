@@ -1,9 +1,8 @@
 use mathlib.Core.Path.{refl, sym, ◌∙◌}
-use Rattle.std.specs.declared.result.Result.TheVariants.{Err}
 use Rattle.model.specs.Effect.{event_effect}
 use Rattle.model.specs.Answer.{first_applying}
 use Rattle.model.specs.Effect.{release_effect}
-use Rattle.model.specs.declared.StepRefusal.TheVariants as refusal
+use Rattle.model.specs.declared.Answer.TheVariants as answer
 use Rattle.model.proofs.Effects.{event-refused}
 use Rattle.events.proofs.buttons.release.Goals as goal
 
@@ -15,7 +14,7 @@ pub returns-else-x : goal.returns-else-x
 unfolding first_applying
 returns-else-x c =
     c.unmoved.ensures
-    ∙ sym (event-refused _ _ _ (Err refusal.AlreadySo) (simp (c.if-x.false, sym c.fits.ensures ∙ c.if-fits.true)) refl)
+    ∙ sym (event-refused _ _ _ answer.AlreadySo (simp (c.if-x.false, sym c.fits.ensures ∙ c.if-fits.true)) refl)
 
 pub returns-else-fits : goal.returns-else-fits
 unfolding event_effect first_applying release_effect
