@@ -209,7 +209,8 @@ fn platform_line_reads(source: &[u8]) -> bool
 fn set_up_by(table: &[u8], source: &[u8]) -> SetUp
     ensures { result ≡ set_up_by table.now source.now }
 {
-    machine::set_up(table, host(line_from(source, 0)))
+    let line = line_from(source, 0);
+    machine::set_up(table, host(line))
 }
 
 // The machine that a session begins with.
