@@ -2,6 +2,8 @@
 ghost use Rattle.std.specs.Prelude.{◌≡◌, ◌==◌, position, [], length, get_or, drop};
 ghost use Rattle.text.specs.Parts.{lf, stop_at, front, parts, lines_of, past_stops, end_of, next_line, same_text};
 
+use crate::line_iter::each_line;
+
 const LF: u8 = 10;
 
 // The place of the first stop.
@@ -93,9 +95,7 @@ pub fn line_count(text: &[u8]) -> usize
     ensures { result ≡ length (lines_of text.now) }
 {
     let mut count: usize = 0;
-    let mut start = 0;
-    while start < text.len() {
-        start = next_line(text, start);
+    for _line in each_line(text) {
         count += 1;
     }
     count

@@ -1,25 +1,19 @@
-use mathlib.Core.Path.{ap}
-use Prim.Native.Nat.{◌<◌}
+use mathlib.Core.Path.{sym, ◌∙◌, ap}
 use native.Mathlib.Omega.{arith}
 use lib.ListN.{length}
-use Rattle.text.proofs.Lines.{line-turn, line-end, next-line-further}
+use Rattle.text.specs.LineIter.{lines_left}
+use Rattle.text.proofs.Lines.{lines-fewer}
 use Rattle.text.proofs.parts.line_count.Goals as goal
 
-pub loop-start-smaller : goal.loop-start-smaller
-loop-start-smaller c =
-    let text : _ = c.args.text.now in
-    let further = next-line-further text c.loop-start.start (omega arith) in
-    omega (arith, c.next_line-start.ensures)
+pub loop-line-init : goal.loop-line-init
+loop-line-init c =
+    let left = ap length (ap lines_left c.into_iter-line-iterator.ensures.into_iter_gives ∙ c.each_line-line-items.ensures) in
+    (omega (arith, left), omega (arith, left, lines-fewer c.args.text.now))
 
-pub loop-start-preserved : goal.loop-start-preserved
-loop-start-preserved c =
-    let text : _ = c.args.text.now in
-    let h : c.loop-start.start < length text = omega arith in
-    let further = next-line-further text c.loop-start.start h in
-    let turn = ap length (line-turn text c.loop-start.start h) in
-    (rw c.next_line-start.ensures (omega arith), omega (arith, c.next_line-start.ensures))
+pub loop-line-preserved : goal.loop-line-preserved
+loop-line-preserved c =
+    let here = ap length c.in-Some.ensures.steps in
+    (omega (arith, here, c.loop-line.invariant.0), omega (arith, here, c.loop-line.invariant.1))
 
 pub returns : goal.returns
-returns c =
-    let end = ap length (line-end c.args.text.now c.loop-start.start (omega arith)) in
-    omega arith
+returns c = omega (arith, ap length c.in-None.ensures.steps.0, c.loop-line.invariant.0)

@@ -1,13 +1,13 @@
--- `text::parts::line_count` meets its contract. The loop's invariant: the lines counted and those from here on are all; the count is at most the place.
+-- `text::parts::line_count` meets its contract. The loop's invariant: the lines counted and those to come are all, and no more than the text has bytes.
 -- Assumes nothing.
 use mathlib.Core.Path.{◌≡◌}
-use Prim.Native.Nat.{◌+◌, ◌-◌, ◌≤◌}
-use lib.ListN.{length, drop}
+use Prim.Native.Nat.{◌+◌, ◌≤◌}
+use lib.ListN.{length}
 use Rattle.text.specs.Parts.{lines_of}
+use Rattle.text.specs.LineIter.{lines_left}
 use Rattle.text.proofs.parts.line_count.Given as goal
 
-abbrev pub invariant-loop-start : goal.invariant-loop-start
-invariant-loop-start l = (l.count + length (lines_of (drop l.start l.text)) ≡ length (lines_of l.text)) × (l.count ≤ l.start)
-
-abbrev pub decreases-loop-start : goal.decreases-loop-start
-decreases-loop-start l = length l.text - l.start
+abbrev pub invariant-loop-line : goal.invariant-loop-line
+invariant-loop-line l =
+    (l.count + length (lines_left l._line-iterator) ≡ length (lines_of l.text))
+    × (l.count + length (lines_left l._line-iterator) ≤ length l.text)
