@@ -25,7 +25,8 @@ use Rattle.model.specs.Legal.{command_byte_legal, slp_typs_legal, gpe_pending_le
 use Rattle.model.proofs.Legal.{means-walk}
 use Rattle.legality.specs.Legality.{one_value}
 use Rattle.values.specs.Values.{byte_in}
-use Rattle.saved.specs.Text.{Parts, edition_line, own0, own1, gpe_text, text_of, records_at}
+use Rattle.saved.specs.declared.parts.Parts.{Parts}
+use Rattle.saved.specs.Text.{edition_line, own0, own1, gpe_text, text_of, records_at}
 use Rattle.saved.specs.Reading.{values_read, parts_in, machine_in, well_formed}
 use Rattle.read_back.proofs.Parts.{past-line}
 

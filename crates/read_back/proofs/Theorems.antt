@@ -35,7 +35,8 @@ use Rattle.split_access.specs.WriteBack.{WritesBackFrom}
 use Rattle.split_access.proofs.ByWalk.{by-walk-from-legal}
 use Rattle.split_access.proofs.WakesAtOnce.{wakes-at-once-from-legal}
 use Rattle.split_access.proofs.Legal.{legal-after, all-legal, demand-3-from-legal, write-back-from-legal}
-use Rattle.saved.specs.Text.{newest, Parts, parts, text_of, records_at, parts_of, saved_text}
+use Rattle.saved.specs.declared.parts.Parts.{Parts}
+use Rattle.saved.specs.Text.{newest, parts, text_of, records_at, parts_of, saved_text}
 use Rattle.saved.specs.Reading.{edition_up_to, edition_of, parts_in, machine_of, machine_in, well_formed, legal_text, malformed_line, text_answer, legal_answer, is_done, first_refusal, read_as, read_parts, read_in, read_of}
 use Rattle.saved.specs.declared.ReadBack.{ReadBack}
 use Rattle.saved.specs.declared.ReadRefusal.TheVariants as refusal

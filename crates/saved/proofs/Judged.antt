@@ -18,7 +18,8 @@ use Rattle.records.specs.Ascii.{ascii}
 use Rattle.records.specs.Rows.{row_count, rows}
 use Rattle.records.specs.Records.{values_in}
 use Rattle.records.specs.Bytes.{bytes_in}
-use Rattle.saved.specs.Text.{Parts, parts, own0, own1, text_of, records_at, gpe_at}
+use Rattle.saved.specs.declared.parts.Parts.{Parts}
+use Rattle.saved.specs.Text.{parts, own0, own1, text_of, records_at, gpe_at}
 use Rattle.saved.specs.Reading.{values_read, bytes_read, parts_in, machine_of, text_answer, legal_answer, is_done, first_refusal, read_as, read_parts}
 use Rattle.saved.specs.declared.ReadBack.{ReadBack}
 use Rattle.saved.specs.declared.ReadRefusal.{ReadRefusal}

@@ -21,7 +21,8 @@ use Rattle.records.specs.Records.{is_in, record_length, records_length, records_
 use Rattle.records.specs.Rows.{Row, rows}
 use Rattle.records.proofs.ReadBack.{records-length}
 use Rattle.machine.specs.declared.Machine.{Machine}
-use Rattle.saved.specs.Text.{newest, Parts, edition_line, own_bytes, own0, own1, gpe_text, text_of, records_at, gpe_at, parts_of, saved_text, write_answer, written_buffer}
+use Rattle.saved.specs.declared.parts.Parts.{Parts}
+use Rattle.saved.specs.Text.{newest, edition_line, own_bytes, own0, own1, gpe_text, text_of, records_at, gpe_at, parts_of, saved_text, write_answer, written_buffer}
 use Rattle.std.specs.Prelude.{Ok, Err, get_or}
 use Rattle.saved.specs.declared.WriteRefusal.TheVariants as refusal
 use Rattle.records.proofs.ByteLaws.{bytes-length}

@@ -12,7 +12,8 @@ use Rattle.model.specs.Legal.{legal}
 use Rattle.legality.specs.Legality.{legality_of, if_legal}
 use Rattle.values.specs.Agree.{agreeing}
 use Rattle.values.specs.Values.{machine_from, values_of, values_agree}
-use Rattle.saved.specs.Text.{newest, Parts, parts, own0, own1, edition_line, text_of, records_at, gpe_at}
+use Rattle.saved.specs.declared.parts.Parts.{Parts}
+use Rattle.saved.specs.Text.{newest, parts, own0, own1, edition_line, text_of, records_at, gpe_at}
 use Rattle.saved.specs.declared.ReadBack.{ReadBack}
 use Rattle.saved.specs.declared.ReadRefusal.{ReadRefusal}
 use Rattle.saved.specs.declared.ReadRefusal.TheVariants as refusal

@@ -11,7 +11,7 @@ use Rattle.records.specs.Bytes.{bytes_text}
 use Rattle.machine.specs.PowerOn.{gpe_bytes}
 use Rattle.machine.specs.declared.Machine.{Machine}
 use Rattle.values.specs.Values.{values_of}
-pub use Rattle.saved.specs.declared.parts.Parts.{Parts}
+use Rattle.saved.specs.declared.parts.Parts.{Parts}
 use Rattle.saved.specs.declared.WriteRefusal.{WriteRefusal}
 use Rattle.saved.specs.declared.WriteRefusal.TheVariants as refusal
 
