@@ -17,7 +17,8 @@ pub fn large_buffer() -> [u8; 65536]
     [0; 65536]
 }
 
-// Reads until the buffer is full, the input ends or a read fails, and returns how many bytes it put at the buffer's start.
+// Reads until the buffer is full, the input ends or a read fails, and returns how many bytes it put at the buffer's start. No index is counted:
+// each read says how far it comes.
 pub fn read_full<R: Read>(reader: &mut R, buf: &mut [u8]) -> usize
     ensures in_bounds { IsPrefixLen result buf.new }
     ensures bytes { Consumes (R.remaining reader.old) (R.remaining reader.new) (take result buf.new) }

@@ -93,7 +93,8 @@ pub struct Effect {
     pub next: Option<StateChange>,
 }
 
-// The registers that a port may lead to; of two blocks, true is block B, or GPE1.
+// The registers that a port may lead to; of two blocks, true is block B, or GPE1. Nowhere is no None: it is a row of the tables of refusals
+// like the others (`leads_nowhere`, `allowed`).
 #[derive(Clone, Copy)]
 pub enum Register {
     SmiCmd,

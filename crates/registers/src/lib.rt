@@ -35,7 +35,8 @@ pub fn enable_in(s: Settings, b: bool) -> u16
     platform::enable_cells(s) & homes_in(s.event_homes, b)
 }
 
-// What a read at a register's first byte shows: that byte, or with two bytes the register.
+// What a read at a register's first byte shows: that byte, or with two bytes the register. Each byte has its own, since the bus has
+// chosen it.
 pub fn read_low(width: u32, register: u32) -> u32
     ensures { result ≡ shown width 0 register }
 {

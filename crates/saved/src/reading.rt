@@ -17,7 +17,7 @@ const LF: u8 = 10;
 // More than the longest text.
 const ROOM: usize = 1024;
 
-// The edition whose first line this is; 0 where it is none.
+// The edition whose first line this is; 0 where it is none, and no Option: theorems speak of the number (`older-reads-inactive`).
 fn edition_of(line: &[u8]) -> u64
     ensures { result ≡ edition_up_to newest line.now }
 {

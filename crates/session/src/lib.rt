@@ -245,7 +245,8 @@ fn run(
     }
 }
 
-// The machine at the end of the same.
+// The machine at the end of the same. Beside `run`, and with a loop of its own: a closure over the buffer would need an invariant of what it
+// has written.
 fn run_end(m: Machine, source: &[u8], from: usize, first: usize) -> Ended
     requires { first ≤ 2 }
     ensures { result ≡ run_end m source.now from first }

@@ -67,7 +67,7 @@ fn low_byte(value: u32) -> u8
     (value % 256) as u8
 }
 
-// The sum of the bytes, modulo 256.
+// The sum of the bytes, modulo 256. `fadt` has its own: what makes the tables shares nothing with the code under test.
 fn sum_all(bytes: &[u8]) -> u8
     ensures { result ≡ sum bytes.now % 256 }
 {

@@ -78,6 +78,7 @@ fn glyph_of(d: u64) -> u8
     }
 }
 
+// By dividing; no index is counted.
 fn digit_count(n: u64, base: u64) -> usize
     requires { 1 < base }
     ensures { result ≡ digit_count base n }

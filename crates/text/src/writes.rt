@@ -1,4 +1,5 @@
-// Bytes written into a lent buffer from a place on. What would lie past the buffer's end is not stored.
+// Bytes written into a lent buffer from a place on. What would lie past the buffer's end is not stored. Buffer and place are no struct: each
+// caller computes the place that it stores at, and the contracts say `sets` of both.
 ghost use Rattle.std.specs.Prelude.{◌≡◌, [], ◌∷◌, ◌+◌, set};
 ghost use Rattle.std.proofs.lemmas.List.Edits.{sets};
 

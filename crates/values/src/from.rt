@@ -10,6 +10,7 @@ use machine::{GPE_BYTES, Machine};
 use platform::{Block, Settings};
 use sleep::SleepTable;
 
+// Cut to a width, each by its own function: no From or TryFrom says what is cut off.
 fn low8(v: u64) -> u8
     ensures { result ≡ v % 2 ^ 8 }
 {

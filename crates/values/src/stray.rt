@@ -6,7 +6,8 @@ ghost use Rattle.values.specs.Values.{values_of};
 use crate::of::values_of;
 use machine::Machine;
 
-// The place of the first value that differs; the number of values where none does.
+// The place of the first value that differs; the number of values where none does. `saved` has its own of bytes: a generic one would be
+// said over the bound's `eq`, and the definition is over numbers.
 fn agreeing(left: [u64; crate::VALUES], right: [u64; crate::VALUES]) -> usize
     ensures { result ≡ agreeing left right }
 {
