@@ -1,5 +1,5 @@
 -- The table of the records (docs/SAVED.md, "The saved text"), in their order, but for the four of general event bytes, which stand last.
-use Rattle.std.specs.Prelude.{List, [], ◌∷◌, ℕ, get_or}
+use Rattle.std.specs.Prelude.{List, [], ◌∷◌, ℕ, cond, eqb, get_or}
 use Prim.Native.String.{String}
 use Rattle.records.specs.declared.table.Form.{Form}
 use Rattle.records.specs.declared.table.Form.TheVariants.{Hex, Flag, Command}
@@ -14,6 +14,10 @@ flag = Flag
 
 abbrev pub command : Form
 command = Command
+
+-- a form by its number; every further number is hex digits too
+unfoldable pub form_numbered : ℕ → Form
+form_numbered n = cond (eqb n 1) flag (cond (eqb n 2) command hex)
 
 -- a record: its name, its value's form and number of hex digits, the edition since which it is there, and its power-on setting, with which an older
 -- text reads

@@ -1,6 +1,7 @@
 // The table of the records, and what each of them says.
 ghost use Rattle.std.specs.Prelude.{◌≡◌, ◌+◌, ◌≤◌, ◌<◌, ◌^◌, length, drop};
 ghost use Rattle.std.proofs.lemmas.List.Edits.{sets};
+ghost use Rattle.records.specs.Rows.{form_numbered};
 ghost use Rattle.records.specs.Records.{
   command_of,
   formed,
@@ -26,6 +27,20 @@ pub enum Form {
     Hex,
     Flag,
     Command,
+}
+
+// A form's number; every further number is hex digits too.
+impl From<u8> for Form {
+    ghost from_gives = { λ n form. form ≡ form_numbered n };
+
+    #[tactic(auto, unfolding(crate::specs::Rows::form_numbered))]
+    fn from(n: u8) -> Form {
+        match n {
+            1 => Form::Flag,
+            2 => Form::Command,
+            _ => Form::Hex,
+        }
+    }
 }
 
 // A record: its name, its form, how many hex digits its value has, the edition since which it is there, and its power-on setting, with which an older
