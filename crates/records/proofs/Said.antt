@@ -23,6 +23,10 @@ module _ (table : List Record) (t : map row_of table ≡ rows) where
   row_said r i h e =
       ap row_of e ∙ sym (map-within row_of r no_row table i (omega (arith, table-count))) ∙ ap (λ (rs : List Row). get_or rs i no_row) t
 
+  -- a record of the table, and the row that it says
+  pub row_here : (r : Record) (i : ℕ) → i < length table → r ≡ get_or table i r → (i < row_count) × (row_of r ≡ get_or rows i no_row)
+  row_here r i k e = let h : i < row_count = omega (arith, k, table-count) in (h, row_said r i h e)
+
 -- a turn at row i
 module _ (r : Row) (i : ℕ) (h : i < row_count) (e : r ≡ get_or rows i no_row) where
   row_sound : Sound r

@@ -3,8 +3,8 @@ ghost use Rattle.std.specs.Prelude.{cond, ◌≡◌, ◌≤◌, length, take, dr
 ghost use Rattle.std.proofs.lemmas.List.Edits.{sets};
 ghost use Rattle.records.specs.Bytes.{byte_in, bytes_text, bytes_in};
 
-use crate::parts::{part_at, rest_from};
-use text::{hex_value, write_hex};
+use crate::parts::part_at;
+use text::{hex_value, rest_from, write_hex};
 
 // The most bytes that a block has.
 pub const BYTES: usize = 8;

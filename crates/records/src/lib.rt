@@ -12,9 +12,9 @@ ghost use Rattle.records.specs.Table.{row_of};
 ghost use Rattle.records.specs.Records.{records_text, records_length, values_in};
 
 pub use bytes::{BYTES, read_bytes, write_bytes};
-use parts::rest_from;
 use table::{Record, TABLE};
 pub use table::{Form, RECORDS, formed};
+use text::rest_from;
 
 fn records() -> [Record; RECORDS]
     ensures { map row_of result ≡ rows }

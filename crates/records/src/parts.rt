@@ -1,6 +1,8 @@
 // A part of a text by its place and its length.
 ghost use Rattle.std.specs.Prelude.{◌≡◌, take, drop};
 
+use text::rest_from;
+
 // The `count` bytes from a place on, or those that are there.
 pub(crate) fn part_at<'a>(text: &'a [u8], from: usize, count: usize) -> &'a [u8]
     ensures { result.now ≡ take count (drop from text.now) }
@@ -9,14 +11,5 @@ pub(crate) fn part_at<'a>(text: &'a [u8], from: usize, count: usize) -> &'a [u8]
     match rest.get(..count) {
         Some(part) => part,
         None => rest,
-    }
-}
-
-pub(crate) fn rest_from<'a>(text: &'a [u8], from: usize) -> &'a [u8]
-    ensures { result.now ≡ drop from text.now }
-{
-    match text.get(from..) {
-        Some(rest) => rest,
-        None => &[],
     }
 }

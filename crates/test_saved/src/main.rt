@@ -48,25 +48,35 @@ fn all(out: &impl Print, text: &[u8]) -> io::Result<()> {
         illegal: false,
     };
     answer(out, "nothing wrong", text, whole)?;
-    let mut illegal = whole;
-    illegal.illegal = true;
+    let illegal = Damage {
+        illegal: true,
+        ..whole
+    };
     answer(out, "illegal", text, illegal)?;
-    let mut malformed = whole;
-    malformed.malformed = true;
+    let malformed = Damage {
+        malformed: true,
+        ..whole
+    };
     answer(out, "malformed", text, malformed)?;
-    let mut both = malformed;
-    both.illegal = true;
+    let both = Damage {
+        illegal: true,
+        ..malformed
+    };
     answer(out, "malformed and illegal", text, both)?;
-    let mut older = whole;
-    older.edition = OLDER;
+    let in_edition = |edition: u8, d: Damage| Damage { edition, ..d };
+    let older = in_edition(OLDER, whole);
     answer(out, "a record that edition 1 does not have", text, older)?;
-    let mut unknown = whole;
-    unknown.edition = UNKNOWN;
+    let unknown = in_edition(UNKNOWN, whole);
     answer(out, "no known edition", text, unknown)?;
-    illegal.edition = UNKNOWN;
-    answer(out, "no known edition, and illegal", text, illegal)?;
-    both.edition = UNKNOWN;
-    answer(out, "no known edition, malformed and illegal", text, both)
+    let unknown = in_edition(UNKNOWN, illegal);
+    answer(out, "no known edition, and illegal", text, unknown)?;
+    let unknown = in_edition(UNKNOWN, both);
+    answer(
+        out,
+        "no known edition, malformed and illegal",
+        text,
+        unknown,
+    )
 }
 
 fn line(out: &impl Print, name: &str, number: u8, value: u64) -> io::Result<()> {

@@ -3,7 +3,7 @@ use mathlib.Core.Path.{◌≡◌, refl}
 use mathlib.Core.Bool.{true, ◌&&◌}
 use mathlib.Core.List.{List}
 use Prim.Native.Nat.{ℕ, suc, ◌+◌, ◌*◌, ◌/◌, ◌%◌, ◌^◌, ◌≤◌, ◌<◌}
-use native.Mathlib.Nat.{mul-le-mul_right, suc-mul, pow-suc}
+use native.Mathlib.Nat.{mul-le-mul_right, suc-mul, pow-suc, pow-le-pow_right}
 use native.Mathlib.Numerals.{add-one}
 use native.Mathlib.Omega.{arith}
 use lib.Dec.{ltb}
@@ -31,6 +31,10 @@ value-turn b n xs i h = rw (drop-cons xs i 0 h, add-one)
 -- a digit more, a power more
 pub value_room : (b n d i : ℕ) → n < b ^ i → d < b → n * b + d < b ^ (i + 1)
 value_room b n d i h k = let top : suc n * b ≤ b ^ i * b = mul-le-mul_right b h in rw (add-one, pow-suc) (omega (arith, suc-mul n b))
+
+-- and one more digit is within as many as may be
+pub digit_room : (b n d i most : ℕ) → 1 ≤ b → n < b ^ i → d < b → i + 1 ≤ most → n * b + d < b ^ most
+digit_room b n d i most k h p q = let room = value_room b n d i h p in let top = pow-le-pow_right k q in omega (arith, room, top)
 
 pub value-end : (b n : ℕ) (xs : List ℕ) (i : ℕ) → length xs ≤ i → value_from b n (drop i xs) ≡ n
 unfolding value_from

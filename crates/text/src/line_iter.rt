@@ -4,9 +4,7 @@ ghost use Rattle.std.specs.Iterator.{YieldsFirstRef, item_count};
 ghost use Rattle.text.specs.Parts.{lines_of};
 ghost use Rattle.text.specs.LineIter.{lines_left};
 
-use crate::parts::part_end;
-
-const LF: u8 = 10;
+use crate::parts::{LF, part_end};
 
 // What stands from a place on.
 pub fn rest_from<'a>(text: &'a [u8], start: usize) -> &'a [u8]

@@ -4,7 +4,7 @@ ghost use Rattle.text.specs.Parts.{lf, stop_at, front, parts, lines_of, past_sto
 
 use crate::line_iter::each_line;
 
-const LF: u8 = 10;
+pub(crate) const LF: u8 = 10;
 
 // The place of the first stop.
 fn first_stop(text: &[u8], stop: u8) -> Option<usize>

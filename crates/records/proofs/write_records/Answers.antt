@@ -5,12 +5,12 @@ use native.Mathlib.Omega.{arith}
 use lib.ListN.{length}
 use lib.Seq.{length-sets}
 use Rattle.text.proofs.Stores.{sets-out}
-use Rattle.records.specs.Rows.{row_count, rows}
+use Rattle.records.specs.Rows.{rows}
 use Rattle.records.specs.Records.{records_text}
 use Rattle.records.specs.Table.{row_of}
 use Rattle.records.proofs.RowFacts.{row_count_lem}
 use Rattle.records.proofs.Turns.{rows_short, write-end}
-use Rattle.records.proofs.Said.{table-count, row_said, row-short, length-step, write_step}
+use Rattle.records.proofs.Said.{table-count, row_here, row-short, length-step, write_step}
 use Rattle.records.proofs.write_records.Goals as goal
 
 pub returns-then-buf-at : goal.returns-then-buf-at
@@ -20,28 +20,22 @@ returns-then-buf-at c =
 
 pub write_in-o-requires : goal.write_in-o-requires
 write_in-o-requires c =
-    let count = table-count c.records.result c.records.ensures in
-    let h : c.loop-i.i < row_count = omega arith in
-    let e = row_said c.records.result c.records.ensures c.record-item.result c.loop-i.i h c.record-item.is in
-    let short = row-short (row_of c.record-item.result) c.loop-i.i h e in
+    let here = row_here c.records.result c.records.ensures c.record-item.result c.loop-i.i (omega arith) c.record-item.is in
+    let short = row-short (row_of c.record-item.result) c.loop-i.i here.0 here.1 in
     omega (arith, short, rows_short c.args.edition, c.loop-i.invariant.2, c.if-buf-at.false, c.well_formed.0.1)
 
 pub overflow_add-o : goal.overflow_add-o
 overflow_add-o c =
-    let count = table-count c.records.result c.records.ensures in
-    let h : c.loop-i.i < row_count = omega arith in
-    let e = row_said c.records.result c.records.ensures c.record-item.result c.loop-i.i h c.record-item.is in
-    let long = length-step (row_of c.record-item.result) c.loop-i.i h e c.args.edition in
+    let here = row_here c.records.result c.records.ensures c.record-item.result c.loop-i.i (omega arith) c.record-item.is in
+    let long = length-step (row_of c.record-item.result) c.loop-i.i here.0 here.1 c.args.edition in
     record { fits = omega (arith, long, rows_short c.args.edition, c.loop-i.invariant.2, c.write_in-o.ensures.0, c.if-buf-at.false, c.well_formed.0.1) }
 
 pub loop-i-preserved : goal.loop-i-preserved
 loop-i-preserved c =
-    let count = table-count c.records.result c.records.ensures in
-    let h : c.loop-i.i < row_count = omega arith in
-    let e = row_said c.records.result c.records.ensures c.record-item.result c.loop-i.i h c.record-item.is in
+    let here = row_here c.records.result c.records.ensures c.record-item.result c.loop-i.i (omega arith) c.record-item.is in
     let wrote = c.write_in-o.ensures in
-    let long = length-step (row_of c.record-item.result) c.loop-i.i h e c.args.edition in (
-      rw (wrote.1, wrote.0) (write_step (row_of c.record-item.result) c.loop-i.i h e c.args.edition c.args.values c.loop-i.buf c.loop-i.o ∙ c.loop-i.invariant.0),
+    let long = length-step (row_of c.record-item.result) c.loop-i.i here.0 here.1 c.args.edition in (
+      rw (wrote.1, wrote.0) (write_step (row_of c.record-item.result) c.loop-i.i here.0 here.1 c.args.edition c.args.values c.loop-i.buf c.loop-i.o ∙ c.loop-i.invariant.0),
       rw (wrote.1, length-sets) c.loop-i.invariant.1,
       omega (arith, wrote.0, long, c.loop-i.invariant.2),
     )

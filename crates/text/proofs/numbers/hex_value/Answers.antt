@@ -2,12 +2,11 @@ use mathlib.Core.Path.{◌≡◌, refl, sym, ap, ◌∙◌}
 use Rattle.std.proofs.Common.{Some}
 use Prim.Native.Nat.{ℕ, ◌+◌, ◌^◌, ◌≤◌, ◌<◌}
 use native.Mathlib.Omega.{arith}
-use native.Mathlib.Nat.{pow-le-pow_right}
 use borrow.Author.Tests.{lt-ltb}
 use lib.ListN.{length, get_or}
 use Rattle.text.specs.Numbers.{digit_of}
 use Rattle.text.proofs.Digits.{digit_shown, no_digit, number-in-digits, number-in-none}
-use Rattle.text.proofs.Turns.{all-digits-turn, all-digits-end, value-turn, value-end, value_room}
+use Rattle.text.proofs.Turns.{all-digits-turn, all-digits-end, value-turn, value-end, value_room, digit_room}
 use Rattle.text.proofs.numbers.hex_value.Goals as goal
 
 pub returns-in_err-digit : goal.returns-in_err-digit
@@ -20,17 +19,13 @@ returns-in_err-digit c =
 pub overflow_mul-n : goal.overflow_mul-n
 overflow_mul-n c =
     let digit = digit_shown _ c.in_ok-digit.digit (sym (c.in_ok-digit.ensures)) in
-    let room = value_room 16 c.loop-x.n c.in_ok-digit.digit c.loop-x.x-index c.loop-x.invariant.room digit.1 in
-    let h : c.loop-x.x-index + 1 ≤ 16 = omega arith in
-    let most : 16 ^ (c.loop-x.x-index + 1) ≤ 16 ^ 16 = pow-le-pow_right (omega arith) h in
+    let room = digit_room 16 c.loop-x.n c.in_ok-digit.digit c.loop-x.x-index 16 (omega arith) c.loop-x.invariant.room digit.1 (omega arith) in
     omega arith
 
 pub overflow_add-n : goal.overflow_add-n
 overflow_add-n c =
     let digit = digit_shown _ c.in_ok-digit.digit (sym (c.in_ok-digit.ensures)) in
-    let room = value_room 16 c.loop-x.n c.in_ok-digit.digit c.loop-x.x-index c.loop-x.invariant.room digit.1 in
-    let h : c.loop-x.x-index + 1 ≤ 16 = omega arith in
-    let most : 16 ^ (c.loop-x.x-index + 1) ≤ 16 ^ 16 = pow-le-pow_right (omega arith) h in
+    let room = digit_room 16 c.loop-x.n c.in_ok-digit.digit c.loop-x.x-index 16 (omega arith) c.loop-x.invariant.room digit.1 (omega arith) in
     omega arith
 
 pub loop-x-preserved : goal.loop-x-preserved
