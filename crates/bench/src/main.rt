@@ -1,21 +1,18 @@
 // The technicians' program: reads `platform.fadt` and a script on standard input, and prints the listing, or nothing.
 #![tactic(auto)]
 
-use session::{LIMIT, SessionRefusal};
+use session::SessionRefusal;
 use std::fs::File;
-
-// A script has at most 13,102 steps, and a line of the listing at most 25 bytes.
-const ROOM: usize = 330000;
 
 fn main(rt: HostRuntime) {
     let mut table = files::large_buffer();
     // A table that is not there has no byte.
     let table_length = files::read_opened(File::open(&rt, "platform.fadt"), &mut table);
-    let mut script = [0; LIMIT + 1];
+    let mut script = session::text_buffer();
     let Some(script_length) = files::read_whole(&mut rt.stdin(), &mut script) else {
         return;
     };
-    let mut listing = [0; ROOM];
+    let mut listing = session::listing_buffer();
     let answer = session::session(
         &table[..table_length],
         &script[..script_length],

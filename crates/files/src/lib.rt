@@ -2,11 +2,12 @@
 // that fails ends the input, and what cannot be written is left out.
 #![tactic(auto)]
 
-ghost use Rattle.std.specs.Prelude.{◌≡◌, ◌<◌, length, take, true, OnErr, IfOk, IfSome};
+ghost use Rattle.std.specs.Prelude.{◌≡◌, ◌<◌, length, take, true, Ok, OnErr, IfOk, IfSome};
 ghost use Rattle.std.specs.Io.{StartsWith};
 ghost use Rattle.std.specs.Io.KnownBytes.{Consumes, IsAtEnd};
 ghost use Rattle.files.specs.Counts.{IsPrefixLen};
 
+use std::fmt::Display;
 use std::io;
 use std::io::Read;
 
@@ -73,6 +74,33 @@ pub fn read_whole<R: Read>(reader: &mut R, buf: &mut [u8]) -> Option<usize>
         return None;
     }
     Some(n)
+}
+
+// Prints as what it holds does, but for a write that fails, which is no error: what it cannot write is left out, and what comes after it is tried.
+#[derive(Drop)]
+pub struct LeavesOut<'a, P: Print>(pub &'a P);
+
+impl<'a, P: Print> Print for LeavesOut<'a, P> {
+    fn print<D: Display + Drop>(&self, value: D) -> io::Result<()>
+        ensures { result ≡ Ok tt }
+    {
+        let _ = self.0.print(value);
+        Ok(())
+    }
+
+    fn println<D: Display + Drop>(&self, value: D) -> io::Result<()>
+        ensures { result ≡ Ok tt }
+    {
+        let _ = self.0.println(value);
+        Ok(())
+    }
+
+    fn write_all(&self, bytes: &[u8]) -> io::Result<()>
+        ensures { result ≡ Ok tt }
+    {
+        let _ = self.0.write_all(bytes);
+        Ok(())
+    }
 }
 
 // Writes the bytes out, or as many as can be written. No clause can name what an output shows: the methods of `Print` have none. Over a writer whose bytes

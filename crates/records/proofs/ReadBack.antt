@@ -6,17 +6,29 @@ use Prim.Native.Nat.{ℕ, zero, suc, ◌+◌, ◌/◌, ◌%◌, ◌^◌, ◌<◌
 use native.Mathlib.Nat.{one-le-pow}
 use native.Mathlib.Omega.{arith}
 use borrow.Author.Tests.{eq-eqb}
+use lib.Dec.{eqb}
 use lib.ListN.{length, get_or, take, drop}
 use lib.Seq.{drop-drop, drop_at, take_at}
 use Rattle.lists.specs.Any.{any}
 use Rattle.lists.proofs.Tests.{or_left, or_right}
 use Rattle.text.specs.Numbers.{digits}
 use Rattle.text.proofs.Digits.{digits-length, number-of-digits}
-use Rattle.records.specs.Rows.{Row, hex, flag, command, row_count, rows}
+use Rattle.records.specs.Rows.{Row, hex, flag, command, form_numbered, row_count, rows}
 use Rattle.records.specs.Records.{command_of, formed, record_text, is_in, text_in, records_text, length_in, records_length, value_in, read_in, values_in, Fits, AllFit}
 use Rattle.records.proofs.RowFacts.{unsound, Sound, sound, row_count_lem, rows-sound}
 use Rattle.records.proofs.Small.{number_small}
 use Rattle.records.proofs.Turns.{in-length, records-length-of}
+
+-- what the form that a number has writes
+by-tests : (is-flag is-command : Bool) (v : ℕ) → formed (cond is-flag flag (cond is-command command hex)) v ≡ cond is-flag (v % 2) (cond is-command (command_of v) v)
+unfolding formed
+by-tests true c v = refl
+by-tests false true v = refl
+by-tests false false v = refl
+
+pub formed-numbered : (n v : ℕ) → formed (form_numbered n) v ≡ cond (eqb n 1) (v % 2) (cond (eqb n 2) (command_of v) v)
+unfolding form_numbered
+formed-numbered n v = by-tests (eqb n 1) (eqb n 2) v
 
 -- what a form writes as it is: any number; a flag; no command, and a command's byte past 1
 pub hex-form : (v : ℕ) → formed hex v ≡ v

@@ -124,16 +124,24 @@ pub(crate) const TABLE: [Record; RECORDS] = [
     added!(b"WAKE_PIN", Flag, 1, 2, 0),
 ];
 
-// What a form writes of a value.
-#[tactic(auto, unfolding(crate::specs::Records::formed))]
-pub fn formed(form: Form, v: u64) -> u64
-    ensures { result ≡ formed form v }
-{
-    match form {
-        Form::Hex => v,
-        Form::Flag => v % 2,
-        Form::Command => command_of(v),
+impl Form {
+    #[tactic(auto, unfolding(crate::specs::Records::formed))]
+    fn of(self, v: u64) -> u64
+        ensures { result ≡ formed self v }
+    {
+        match self {
+            Form::Hex => v,
+            Form::Flag => v % 2,
+            Form::Command => command_of(v),
+        }
     }
+}
+
+// What a form, given as it is or by its number, writes of a value.
+pub fn formed<F: Into<Form>>(form: F, v: u64) -> u64
+    ensures { (is : Form) × F.converts form is × (result ≡ formed is v) }
+{
+    form.into().of(v)
 }
 
 // A waiting command: none, or 1 and the byte.

@@ -2,17 +2,14 @@
 #![tactic(auto)]
 
 use machine::Machine;
-use session::{LIMIT, SessionRefusal};
+use session::SessionRefusal;
 use std::fs::File;
 
-// There are at most 13,107 steps, and a line of the listing has at most 25 bytes.
-const ROOM: usize = 330000;
-
 fn main(rt: HostRuntime) {
-    let mut state = [0; LIMIT + 1];
+    let mut state = session::text_buffer();
     // A text that is not there is empty.
     let state_length = files::read_opened(File::open(&rt, "state"), &mut state);
-    let mut steps = [0; LIMIT + 1];
+    let mut steps = session::text_buffer();
     let Some(steps_length) = files::read_whole(&mut rt.stdin(), &mut steps) else {
         return;
     };
@@ -23,7 +20,7 @@ fn main(rt: HostRuntime) {
 }
 
 fn list(rt: &impl Print, m: Machine, steps: &[u8]) {
-    let mut listing = [0; ROOM];
+    let mut listing = session::listing_buffer();
     let answer = session::resume(m, steps, &mut listing);
     print(rt, answer, &listing);
 }

@@ -2,7 +2,7 @@
 // script's first line set up; or, where there is no such file, that of the saved text `state`, and all lines are steps.
 #![tactic(auto)]
 
-use session::{Ended, LIMIT};
+use session::Ended;
 use std::fs::{File, Files};
 use std::io::Read;
 
@@ -10,7 +10,7 @@ use std::io::Read;
 const ROOM: usize = 1024;
 
 fn main(rt: HostRuntime) {
-    let mut script = [0; LIMIT + 1];
+    let mut script = session::text_buffer();
     let Some(length) = files::read_whole(&mut rt.stdin(), &mut script) else {
         return;
     };
@@ -30,7 +30,7 @@ fn from_state(rt: &(impl Files + Print), steps: &[u8]) {
     let Ok(mut file) = File::open(rt, "state") else {
         return;
     };
-    let mut state = [0; LIMIT + 1];
+    let mut state = session::text_buffer();
     let length = files::read_full(&mut file, &mut state);
     let back = saved::read(&state[..length]);
     if back.answer.is_ok() {

@@ -55,6 +55,20 @@ pub struct Ended {
 // A script's bytes past this many do not read.
 pub const LIMIT: usize = 65536;
 
+// For a script or a saved text, and one byte more, to see that it is longer.
+pub fn text_buffer() -> [u8; LIMIT + 1]
+    ensures { limit + 1 ≡ length result }
+{
+    [0; LIMIT + 1]
+}
+
+// A script has at most 13,107 steps, and a line of the listing at most 25 bytes.
+pub fn listing_buffer() -> [u8; 330000]
+    ensures { 330000 ≡ length result }
+{
+    [0; 330000]
+}
+
 // Where a line that begins at a place ends, its LF with it, in a script of this size.
 fn line_end(size: usize, at: usize, line: &[u8]) -> usize
     ensures { result ≡ line_end size at line.now }

@@ -2,6 +2,7 @@
 // writes them. The last line is a platform line to start from, which asks nothing of the table.
 #![tactic(auto)]
 
+use files::LeavesOut;
 use platform::{Block, Host, Settings, is_present};
 use std::fs::{File, Files};
 use std::{fmt, io};
@@ -10,15 +11,14 @@ use std::{fmt, io};
 const NO: [u8; 2] = [255, 255];
 
 fn main(rt: HostRuntime) {
-    // What cannot be written is left out.
-    let _ = print_all(&rt);
+    let _ = print_all(&rt, &LeavesOut(&rt));
 }
 
-fn print_all(rt: &(impl Files + Print)) -> io::Result<()> {
+fn print_all(rt: &impl Files, out: &impl Print) -> io::Result<()> {
     let mut table = files::large_buffer();
     let length = files::read_opened(File::open(rt, "platform.fadt"), &mut table);
     let table = &table[..length];
-    header(rt, table)?;
+    header(out, table)?;
     let host = Host {
         event_homes: 0,
         control_homes: 0,
@@ -26,10 +26,10 @@ fn print_all(rt: &(impl Files + Print)) -> io::Result<()> {
         pairs: [NO; 6],
     };
     let settings = fadt::settings(table, host);
-    commands(rt, settings)?;
-    blocks(rt, settings)?;
-    flags(rt, settings.flags)?;
-    println!(rt; "platform\t0000\t0000\t0\t-\t-\t-\t-\t-\t-")
+    commands(out, settings)?;
+    blocks(out, settings)?;
+    flags(out, settings.flags)?;
+    println!(out; "platform\t0000\t0000\t0\t-\t-\t-\t-\t-\t-")
 }
 
 // A port or an event: as few digits as show it up to four, else 8 or 16.

@@ -2,12 +2,12 @@
 #![tactic(auto)]
 
 use cells::Column;
+use files::LeavesOut;
 use platform::{Block, Settings};
 use std::io;
 
 fn main(rt: HostRuntime) {
-    // What cannot be written is left out.
-    let _ = all(&rt);
+    let _ = all(&LeavesOut(&rt));
 }
 
 fn all(out: &impl Print) -> io::Result<()> {

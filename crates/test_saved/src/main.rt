@@ -2,6 +2,9 @@
 // input's; for each case its name, the number and the value.
 #![tactic(auto)]
 
+ghost use Rattle.std.specs.Prelude.{◌≡◌, length};
+
+use files::LeavesOut;
 use std::io;
 
 const ROOM: usize = 1024;
@@ -31,11 +34,16 @@ struct Damage {
     illegal: bool,
 }
 
+fn empty() -> [u8; ROOM]
+    ensures { 1024 ≡ length result }
+{
+    [FILL; ROOM]
+}
+
 fn main(rt: HostRuntime) {
-    let mut text = [FILL; ROOM];
+    let mut text = empty();
     let n = files::read_full(&mut rt.stdin(), &mut text);
-    // What cannot be written is left out.
-    let _ = all(&rt, &text[..n]);
+    let _ = all(&LeavesOut(&rt), &text[..n]);
 }
 
 fn all(out: &impl Print, text: &[u8]) -> io::Result<()> {
@@ -86,7 +94,7 @@ fn line(out: &impl Print, name: &str, number: u8, value: u64) -> io::Result<()> 
 // The text's machine into a buffer that is so many bytes short of it, the start of a longer one; then the byte at the start, the one that would be the
 // text's last, and the one after it.
 fn room(out: &impl Print, name: &str, text: &[u8], short: usize) -> io::Result<()> {
-    let mut buf = [FILL; ROOM];
+    let mut buf = empty();
     let n = text.len();
     let room = n.saturating_sub(short).min(ROOM);
     write(out, name, text, &mut buf[..room])?;
@@ -117,7 +125,7 @@ fn byte(out: &impl Print, name: &str, buf: &[u8], i: usize) -> io::Result<()> {
 
 // What the text is answered with this damage.
 fn answer(out: &impl Print, name: &str, text: &[u8], damage: Damage) -> io::Result<()> {
-    let mut buf = [FILL; ROOM];
+    let mut buf = empty();
     text::write_text(&mut buf, 0, text);
     text::write_byte(&mut buf, EDITION, damage.edition);
     if damage.malformed {

@@ -8,17 +8,21 @@ mod fields;
 mod numbers;
 mod real_table;
 
+use files::LeavesOut;
 use std::fs::Files;
 use std::io;
 
 fn main(rt: HostRuntime) {
     let mut source = files::large_buffer();
     let n = files::read_full(&mut rt.stdin(), &mut source);
-    // What cannot be written is left out.
-    let _ = all(&rt, &source[..n]);
+    let _ = all(&rt, &LeavesOut(&rt), &source[..n]);
 }
 
-fn all(rt: &(impl Files + Print + Eprint + AllocGlobal), source: &[u8]) -> io::Result<()> {
-    case::all(rt, source)?;
-    real_table::real_table(rt)
+fn all(
+    rt: &(impl Files + Eprint + AllocGlobal),
+    out: &impl Print,
+    source: &[u8],
+) -> io::Result<()> {
+    case::all(out, source)?;
+    real_table::real_table(rt, out)
 }

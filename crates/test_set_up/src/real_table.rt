@@ -5,10 +5,13 @@ use std::fs::{File, Files};
 use std::io::{self, Error, Read};
 use test_tables::{NO_STATE, pairs_of};
 
-pub(crate) fn real_table(rt: &(impl Files + Print + Eprint + AllocGlobal)) -> io::Result<()> {
+pub(crate) fn real_table(
+    rt: &(impl Files + Eprint + AllocGlobal),
+    out: &impl Print,
+) -> io::Result<()> {
     let path = "qemu-pc.fadt";
     match File::open(rt, path) {
-        Ok(mut file) => answers(rt, &mut file),
+        Ok(mut file) => answers(out, &mut file),
         Err(error) => {
             fail(rt, path, error);
             Ok(())

@@ -12,17 +12,20 @@ const ROOM: usize = 64;
 pub(crate) fn all(out: &impl Print, source: &[u8]) -> io::Result<()> {
     let mut m = session();
     for words in source.split(|byte| *byte == b'\n') {
-        m = line(out, m, words)?;
+        line(out, &mut m, words)?;
     }
     Ok(())
 }
 
-fn line(out: &impl Print, m: Machine, words: &[u8]) -> io::Result<Machine> {
+fn line(out: &impl Print, m: &mut Machine, words: &[u8]) -> io::Result<()> {
     if is_silent(words) {
-        return Ok(m);
+        return Ok(());
     }
     match part(words, b' ', 0) {
-        b"platform" => power_on(out, part(words, b' ', 1)),
+        b"platform" => {
+            *m = power_on(out, part(words, b' ', 1))?;
+            Ok(())
+        }
         _ => said(out, m, words),
     }
 }
@@ -33,23 +36,19 @@ fn is_silent(words: &[u8]) -> bool {
 }
 
 // Writes a line and, if it says a step, does it and writes what came of it.
-fn said(out: &impl Print, m: Machine, words: &[u8]) -> io::Result<Machine> {
+fn said(out: &impl Print, m: &mut Machine, words: &[u8]) -> io::Result<()> {
     out.write_all(words)?;
-    let next = heard(out, m, words)?;
-    println!(out)?;
-    Ok(next)
+    heard(out, m, words)?;
+    out.write_all(b"\n")
 }
 
-fn heard(out: &impl Print, m: Machine, words: &[u8]) -> io::Result<Machine> {
+fn heard(out: &impl Print, m: &mut Machine, words: &[u8]) -> io::Result<()> {
     if is_remark(words) {
-        return Ok(m);
+        return Ok(());
     }
     match read(words) {
         Some(s) => done(out, m, s),
-        None => {
-            print!(out; "\tunread")?;
-            Ok(m)
-        }
+        None => out.write_all(b"\tunread"),
     }
 }
 
@@ -62,19 +61,16 @@ fn read(words: &[u8]) -> Option<Step> {
     let mut line = [b'\n'; ROOM];
     text::write_text(&mut line, 0, words);
     for byte in line.iter_mut() {
-        if *byte == b' ' {
-            *byte = b'\t';
-        }
+        *byte = if *byte == b' ' { b'\t' } else { *byte };
     }
     script::line_of(text::line_from(&line, 0))
 }
 
-fn done(out: &impl Print, m: Machine, s: Step) -> io::Result<Machine> {
-    let stepped = step::step(m, s);
+fn done(out: &impl Print, m: &mut Machine, s: Step) -> io::Result<()> {
+    let stepped = step::step(*m, s);
     let answer = stepped.answer;
-    let next = stepped.machine;
-    show(out, answer, next)?;
-    Ok(next)
+    *m = stepped.machine;
+    show(out, answer, *m)
 }
 
 // A listing's line without the step's number, which is one digit here.

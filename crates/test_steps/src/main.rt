@@ -6,19 +6,20 @@
 mod case;
 mod platforms;
 
+use files::LeavesOut;
 use listing::HEADER_LENGTH;
-use std::io;
+use std::io::{self, Read};
 
 fn main(rt: HostRuntime) {
-    let mut source = files::large_buffer();
-    let n = files::read_full(&mut rt.stdin(), &mut source);
-    // What cannot be written is left out.
-    let _ = all(&rt, &source[..n]);
+    let _ = all(&LeavesOut(&rt), &mut rt.stdin());
 }
 
-fn all(out: &impl Print, source: &[u8]) -> io::Result<()> {
+// The header stands before anything is read.
+fn all(out: &impl Print, input: &mut impl Read) -> io::Result<()> {
     let mut header = [0; HEADER_LENGTH];
     listing::write_header(&mut header);
     out.write_all(&header)?;
-    case::all(out, source)
+    let mut source = files::large_buffer();
+    let n = files::read_full(input, &mut source);
+    case::all(out, &source[..n])
 }

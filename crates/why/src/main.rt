@@ -12,48 +12,48 @@ mod state;
 mod table;
 mod words;
 
-use session::{EndRefusal, LIMIT, SessionRefusal};
+use files::LeavesOut;
+use session::{EndRefusal, SessionRefusal};
 use std::fs::{File, Files};
 use std::io;
 use std::io::Read;
 
 fn main(rt: HostRuntime) {
-    // What cannot be written is left out.
-    let _ = tell_all(&rt, &mut rt.stdin());
+    let _ = tell_all(&rt, &LeavesOut(&rt), &mut rt.stdin());
 }
 
-fn tell_all(rt: &(impl Files + Print), input: &mut impl Read) -> io::Result<()> {
+fn tell_all(rt: &impl Files, out: &impl Print, input: &mut impl Read) -> io::Result<()> {
     let opened = File::open(rt, "platform.fadt");
     if opened.is_err() {
-        return without_table(rt, input);
+        return without_table(rt, out, input);
     }
     let mut table = files::large_buffer();
     // The file is closed before the script is read.
     let table_length = files::read_opened(opened, &mut table);
     let table = &table[..table_length];
-    let mut script = [0; LIMIT + 1];
+    let mut script = session::text_buffer();
     let Some(script_length) = files::read_whole(input, &mut script) else {
-        return println!(rt; "the script cannot be read to its end");
+        return println!(out; "the script cannot be read to its end");
     };
     let source = &script[..script_length];
     // Room is judged last: no room for the listing means that all of it reads.
     let mut listing = [0; 1];
     let answer = session::session(table, source, &mut listing);
-    tell(rt, answer, table, source)
+    tell(out, answer, table, source)
 }
 
-fn without_table(rt: &(impl Files + Print), input: &mut impl Read) -> io::Result<()> {
+fn without_table(rt: &impl Files, out: &impl Print, input: &mut impl Read) -> io::Result<()> {
     let opened = File::open(rt, "state");
     if opened.is_err() {
-        return println!(rt; "the file platform.fadt does not open");
+        return println!(out; "the file platform.fadt does not open");
     }
-    let mut text = [0; LIMIT + 1];
+    let mut text = session::text_buffer();
     let text_length = files::read_opened(opened, &mut text);
-    let mut steps = [0; LIMIT + 1];
+    let mut steps = session::text_buffer();
     let Some(steps_length) = files::read_whole(input, &mut steps) else {
-        return println!(rt; "the steps cannot be read to their end");
+        return println!(out; "the steps cannot be read to their end");
     };
-    state::tell(rt, &text[..text_length], &steps[..steps_length])
+    state::tell(out, &text[..text_length], &steps[..steps_length])
 }
 
 fn tell(
