@@ -1,7 +1,7 @@
 // A session: a script run on a table's machine, or steps on a given one, and its listing or the machine at its end.
 #![tactic(auto)]
 
-ghost use Rattle.std.specs.Prelude.{◌≡◌, ◌+◌, ◌/◌, ◌≤◌, ◌&&◌, leb, length, drop};
+ghost use Rattle.std.specs.Prelude.{◌≡◌, ◌+◌, ◌/◌, ◌≤◌, ◌&&◌, leb, length, drop, replicate};
 ghost use Rattle.std.proofs.lemmas.List.Edits.{sets};
 ghost use Rattle.text.specs.Numbers.{digit_count};
 ghost use Rattle.text.specs.Parts.{lines_of};
@@ -57,14 +57,14 @@ pub const LIMIT: usize = 65536;
 
 // For a script or a saved text, and one byte more, to see that it is longer.
 pub fn text_buffer() -> [u8; LIMIT + 1]
-    ensures { limit + 1 ≡ length result }
+    ensures { result ≡ replicate (limit + 1) 0 }
 {
     [0; LIMIT + 1]
 }
 
 // A script has at most 13,107 steps, and a line of the listing at most 25 bytes.
 pub fn listing_buffer() -> [u8; 330000]
-    ensures { 330000 ≡ length result }
+    ensures { result ≡ replicate 330000 0 }
 {
     [0; 330000]
 }
